@@ -1,0 +1,6 @@
+pub mod Causes
+pub mod Image
+pub mod Maker
+pub mod Reader
+pub mod Streams
+pub mod View

@@ -1,0 +1,84 @@
+ghost use Rattle.std.specs.Prelude.{◌≡◌, ◌<◌, ◌≤◌, ℕ, List, Option, length};
+ghost use Rattle.dev_traits.specs.Streams.{Files, Asks, Takes, TakeWithin, TakeCause, Puts, PutWithin, PutCause, GivesBack};
+ghost use Rattle.dev_traits.specs.Causes.{Rose};
+ghost use Rattle.dev_traits.specs.declared.streams.Taken.TheVariants as taken;
+ghost use Rattle.dev_traits.specs.declared.streams.Put.TheVariants as put_;
+ghost use Rattle.dev_traits.specs.declared.streams.Asked.TheVariants as asked;
+
+use std::alloc::Global;
+
+/// What asking for an input by name gives.
+#[derive(Drop)]
+pub enum Asked<X> {
+    Got(X),
+    Absent,
+    Failed,
+    Memory,
+}
+
+/// What a read gives.
+#[derive(Clone, Copy, Debug, PartialEq, Eq)]
+pub enum Taken {
+    Bytes(usize),
+    End,
+    Failed,
+}
+
+/// What a write gives.
+#[derive(Clone, Copy, Debug, PartialEq, Eq)]
+pub enum Put {
+    Took(usize),
+    Failed,
+}
+
+/// A stream of bytes that is read to its end.
+pub trait Source {
+    /// The bytes that are left, where the source tells them.
+    ghost left: { Self → Option (List ℕ) };
+
+    /// How many reads failed.
+    ghost faults: { Self → ℕ };
+
+    fn take(&mut self, into: &mut [u8]) -> Taken
+        requires { 0 < length into.old }
+        ensures within { TakeWithin (length into.old) result }
+        ensures bytes { Takes (left self.old) (left self.new) into.new result }
+        ensures cause { TakeCause (faults self.old) (faults self.new) result };
+}
+
+/// Inputs by name.
+pub trait Inputs {
+    type Src: Source;
+
+    /// The inputs that are held, where this tells them.
+    ghost files: { Self → Option Files };
+
+    /// How many asks and reads failed.
+    ghost faults: { Self → ℕ };
+
+    fn ask(&mut self, alloc: Global, name: &str) -> Asked<Self::Src>
+        ensures same { files self.new ≡ files self.old }
+        ensures counts { faults self.old ≤ faults self.new }
+        ensures found { Asks Self.Src.left Self.Src.faults (files self.old) name.now result }
+        ensures cause { result ≡ asked.Failed → Rose (faults self.old) (faults self.new) };
+
+    /// Counts the faults of a source that is done with.
+    fn give_back(&mut self, src: Self::Src)
+        ensures same { files self.new ≡ files self.old }
+        ensures counts { GivesBack (Self.Src.faults src) (faults self.old) (faults self.new) };
+}
+
+/// A stream of bytes that is written.
+pub trait Sink {
+    /// The bytes that were put, where the sink tells them.
+    ghost held: { Self → Option (List ℕ) };
+
+    /// How many writes failed.
+    ghost faults: { Self → ℕ };
+
+    fn put(&mut self, piece: &[u8]) -> Put
+        requires { 0 < length piece.now }
+        ensures within { PutWithin (length piece.now) result }
+        ensures bytes { Puts (held self.old) (held self.new) piece.now result }
+        ensures cause { PutCause (faults self.old) (faults self.new) result };
+}
