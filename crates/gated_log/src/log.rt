@@ -53,7 +53,7 @@ pub fn append<S: Store>(store: &mut S, log: &mut Log, piece: &Framed) -> Result<
     store.write_at(area, gate + 1, bytes)?;
     store.sync(area)?;
     store.write_at(area, gate, &[OPEN])?;
-    store.sync(area)?;
+    store.sync(log.area)?;
     log.end = gate + bytes.len() as u64;
     Ok(())
 }

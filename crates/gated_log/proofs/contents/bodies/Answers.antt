@@ -1,4 +1,4 @@
-use Rattle.std.proofs.Common.{◌≡◌, ◌+◌, ◌-◌, ◌<◌, ℕ, List, [], ◌∷◌, ◌++◌, Option, IfSome, MatchOption, take, drop, length, arith, sym, ◌∙◌, ap, subst}
+use Rattle.std.proofs.Common.{◌≡◌, ◌+◌, ◌-◌, ◌<◌, ℕ, List, [], ◌∷◌, ◌++◌, Option, IfSome, MatchOption, take, drop, arith, sym, ◌∙◌, subst}
 use Rattle.dev_traits.specs.Image.{area_of}
 use Rattle.dev_traits.proofs.Moments.{calm_then}
 use Rattle.gated_log.specs.Log.{IsLog, HasNone, IsBlock, IsScanned}

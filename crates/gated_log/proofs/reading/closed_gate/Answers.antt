@@ -1,4 +1,4 @@
-use Rattle.std.proofs.Common.{◌<◌, ◌≤◌, ◌+◌, ℕ, Option, IfSome, MatchOption, drop, arith, ◌∙◌, subst}
+use Rattle.std.proofs.Common.{◌<◌, ◌+◌, ℕ, Option, IfSome, MatchOption, drop, arith, ◌∙◌, subst}
 use Rattle.dev_traits.specs.Image.{area_of}
 use Rattle.dev_traits.proofs.Moments.{calm_none, calm_then}
 use Rattle.gated_log.specs.Log.{HasNone, IsBlock}

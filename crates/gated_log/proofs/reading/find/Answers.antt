@@ -26,6 +26,7 @@ returns-clause-found g c image told image' told' bodies log =
     let found = c.in_ok-end.ensures.found image (c.length.ensures.calm.seen ∙ told) in
     let same : image ≡ image' = same_some image image' (sym (c.closed_gate.ensures.calm.seen ∙ c.length.ensures.calm.seen ∙ told) ∙ told') in
     subst (λ (i : Image). EndsAt bodies c.in_ok-end.end (area_of i c.args.area)) same (ends_here (area_of image c.args.area) c.in_ok-end.end found.0 found.1 bodies log)
+
 pub returns-in_err-room-clause-any_moment : goal.returns-in_err-room-clause-any_moment
 returns-in_err-room-clause-any_moment g c = calm_blanked c.args.area _ _ (calm_then _ _ _ c.length.ensures.calm c.room.ensures.calm)
 
