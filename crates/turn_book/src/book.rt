@@ -138,7 +138,7 @@ impl<T: Replayed> TurnBook<T> {
     /// Cuts a number of turns off, for another caller, who has seen the same and made no call.
     ///
     /// # Errors
-    /// Want of memory. A pass takes none for now, so it does not come.
+    /// Want of memory. The pass is then as before.
     pub fn split(
         &self,
         _alloc: Global,
@@ -151,6 +151,7 @@ impl<T: Replayed> TurnBook<T> {
         ensures given { IfOk result (λ p. p ≡ share turns pass.old) }
         ensures none { IfErr result (λ _. pass.new ≡ pass.old) }
     {
+        // A seat at the table takes no memory.
         let seat = cut::<T, Brand>(&self.table.shared, &mut pass.seat, turns);
         pass.left -= turns;
         Ok(Pass {
@@ -203,7 +204,7 @@ impl<T: Replayed> TurnBook<T> {
     /// Each of two passes takes in what the other has seen. Calls and turns stay where they are.
     ///
     /// # Errors
-    /// Want of memory, as at `split`.
+    /// Want of memory. Both passes are then as before.
     pub fn meet(
         &self,
         alloc: Global,

@@ -1,4 +1,3 @@
-use Rattle.std.proofs.Common.{◌+◌, ◌*◌}
 use Rattle.turn_uses.proofs.threads.+count_beside+fn-count_beside-join+arg2+fn-count_beside-join+arg3.Given as goal
 
 abbrev pub decreases-count_beside : goal.decreases-count_beside
