@@ -4,6 +4,7 @@ use mathlib.Core.List.{IsPrefix}
 use Rattle.atomic_table.specs.Seated.{TableId}
 use Rattle.turn_book.specs.Places.{Has, merged}
 
+-- which book it is, the opening of its history, and the turns of all its passes
 pub record Booking (O : Type 0) : Type 0 where
   pub id : TableId
   pub opening : O
@@ -30,6 +31,7 @@ module _ {E O : Type 0} where
   abbrev pub share : ℕ → Holding E O → Holding E O
   share n p = record p { mine = []; left = n }
 
+  -- with n turns less
   abbrev pub less : ℕ → Holding E O → Holding E O
   less n p = record p { left = p.left - n }
 

@@ -1,4 +1,4 @@
--- The rule of the table, and what each step tells.
+-- The rule of the table. A pass rests (stage 0), waits with its ticket (stage 1), or has the value in its turn (stage 2).
 use Rattle.std.specs.Prelude.{◌≡◌, ◌≢◌, ◌⊎◌, ℕ, ◌+◌, ◌^◌, ◌<◌, ◌≤◌, List, [], ◌∷◌, length, Option, Some, None}
 use mathlib.Core.Option.{some, none}
 use mathlib.Core.List.{IsPrefix}
@@ -8,9 +8,11 @@ use Rattle.turn_book.specs.declared.rule.View.{View}
 use Rattle.turn_book.specs.Places.{Rises, Has}
 
 module _ {E O : Type 0} where
+  -- the first pass, which has all turns
   abbrev pub newcomer : O → ℕ → View E O
   newcomer o left = record { opening = Some o; seen = []; shorter = []; mine = []; left = left; stage = 0; ticket = 0 }
 
+  -- what is left of a pass that another took in
   abbrev pub spent : View E O
   spent = record { opening = None; seen = []; shorter = []; mine = []; left = 0; stage = 0; ticket = 0 }
 
@@ -18,6 +20,7 @@ module _ {E O : Type 0} where
   lefts [] = 0
   lefts (v ∷ vs) = v.left + lefts vs
 
+  -- what holds of one pass: it knows a beginning of the history and its own calls there, and its ticket is still to be served
   pub record Known (o : O) (log : List E) (next : ℕ) (v : View E O) : Type 0 where
     pub opened : (x : O) → v.opening ≡ Some x → x ≡ o
     pub begins : IsPrefix v.seen log
@@ -40,6 +43,7 @@ module _ {T E O : Type 0} (outcome : O → List E → T → Type 0) (o : O) (log
   abbrev pub AtTurn : List (mathlib.Core.Option.Option (Option T)) → Type 0
   AtTurn homes = (homes ≡ none ∷ []) × (j : ℕ) × (v : View E O) × (get_elem? views j ≡ some v) × (v.stage ≡ 2)
 
+-- the word `next` counts the tickets, the word `serving` the entries of the history, and no more turns are drawn than there are
 pub record Kept {T E O : Type 0} (legal : O → List E → Type 0) (outcome : O → List E → T → Type 0) (turns : ℕ) (o : O) (s : State (Option T) (View E O)) : Type 0 where
   pub log : List E
   pub next : ℕ

@@ -1,6 +1,6 @@
 -- A best score: what its history may have, and what it is then.
 use Rattle.std.specs.Prelude.{◌≡◌, ℕ, ◌+◌, ◌≤◌, max, List, [], ◌∷◌, ◌++◌}
-use Rattle.std.proofs.Common.{refl, ap, ◌∙◌, arith, subst}
+use Rattle.std.proofs.Common.{refl, arith, subst}
 use Rattle.turn_uses.specs.declared.scores.Score.{Score}
 use Rattle.turn_uses.specs.declared.scores.Score.TheVariants.{Submitted, Compared}
 use Rattle.turn_uses.specs.Standing.{StandsAt}

@@ -1,5 +1,5 @@
 //! Two callers: one hands a score in, the other learns of it and compares it with the best.
-ghost use Rattle.std.specs.Prelude.{◌≡◌, ◌+◌, ◌<◌, IfOk};
+ghost use Rattle.std.specs.Prelude.{◌≡◌, ◌+◌, ◌<◌, length, IfOk};
 ghost use Rattle.turn_book.specs.Passes.{IsOf};
 ghost use Rattle.turn_uses.specs.Scores.{best_after};
 
@@ -25,6 +25,7 @@ pub fn behind_best<R: Wait>(
     requires left { (0 < first.old.left) × (0 < second.old.left) }
     ensures book { IsOf book.now first.new × IsOf book.now second.new }
     ensures behind { IfOk result (λ behind. score + behind ≡ best_after book.now.opening second.new.seen) }
+    ensures calls { IfOk result (λ _. (length first.new.mine ≡ length first.old.mine + 1) × (length second.new.mine ≡ length second.old.mine + 1)) }
     ensures left { IfOk result (λ _. (first.new.left + 1 ≡ first.old.left) × (second.new.left + 1 ≡ second.old.left)) }
 {
     let (place, ()) = book.turn(rt, first, &mut Submit { score });

@@ -49,19 +49,18 @@ fn meet_both(
     book: &TurnBook<Counter>,
     first: &mut Pass<Counter>,
     second: &mut Pass<Counter>,
-    mine: Drawn,
-    theirs: Drawn,
+    _mine: Drawn,
+    _theirs: Drawn,
 ) -> Result<(), AllocError>
     requires book { IsOf book.now first.old × IsOf book.now second.old }
-    requires first { StandsAt first.old.seen mine.place mine.number }
-    requires second { StandsAt second.old.seen theirs.place theirs.number }
+    requires first { StandsAt first.old.seen _mine.place _mine.number }
+    requires second { StandsAt second.old.seen _theirs.place _theirs.number }
     ensures book { IsOf book.now first.new × IsOf book.now second.new }
-    ensures first { IfOk result (λ _. StandsAt first.new.seen mine.place mine.number × StandsAt first.new.seen theirs.place theirs.number) }
+    ensures first { IfOk result (λ _. StandsAt first.new.seen _mine.place _mine.number × StandsAt first.new.seen _theirs.place _theirs.number) }
     ensures one { IfOk result (λ _. first.new.seen ≡ second.new.seen) }
     ensures calls { (first.new.mine ≡ first.old.mine) × (second.new.mine ≡ second.old.mine) }
     ensures left { (first.new.left ≡ first.old.left) × (second.new.left ≡ second.old.left) }
 {
-    let (_, _) = (mine, theirs);
     book.meet(alloc, first, second)
 }
 
