@@ -1,6 +1,8 @@
 //! The outside in memory: inputs, a sink and a store that tell their bytes, and fail where they are told to.
 #![tactic(auto)]
 
+mod area;
+mod call;
 mod faults;
 mod inputs;
 mod maker;
