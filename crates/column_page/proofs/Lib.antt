@@ -1,1 +1,4 @@
 pub mod OneCell
+pub mod RunFacts
+pub mod Joined
+pub mod WordFacts

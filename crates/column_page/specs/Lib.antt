@@ -1,2 +1,3 @@
 pub mod CellBytes
 pub mod Page
+pub mod Words

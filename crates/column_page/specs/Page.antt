@@ -1,7 +1,8 @@
 -- The page of cells, where each cell is given as its bytes.
-use Rattle.std.specs.Prelude.{ℕ, ◌+◌, nat_lt, if◌then◌else◌, Bool, true, false, List, [], ◌∷◌, ◌++◌, length, map}
+use Rattle.std.specs.Prelude.{◌≡◌, All, IsTrue, ⊤, ℕ, ◌+◌, nat_lt, if◌then◌else◌, Bool, true, false, List, [], ◌∷◌, ◌++◌, length, map}
 use Rattle.std.specs.List.{concat, flat_map}
 use Rattle.std.specs.Str.{bytes_eq}
+use Rattle.pk_values.specs.Fits.{fits}
 use Rattle.pk_values.specs.declared.cells.Value.{Value}
 use Rattle.pk_values.specs.declared.cells.Column.{Column}
 use Rattle.column_page.specs.CellBytes.{cell_bytes, u16_bytes}
@@ -16,7 +17,7 @@ plain cells = 0 ∷ concat cells
 -- a length and a cell; the runs with one cell more at the front
 abbrev pub put_run : Cell → List (ℕ × Cell) → List (ℕ × Cell)
 put_run c [] = (1, c) ∷ []
-put_run c (r ∷ rs) = if bytes_eq c r.1 then (r.0 + 1, r.1) ∷ rs else (1, c) ∷ r ∷ rs
+put_run c (r ∷ rs) = if bytes_eq c r.1 then (r.0 + 1, c) ∷ rs else (1, c) ∷ r ∷ rs
 
 -- the runs of equal cells, each as long as can be
 abbrev pub runs : List Cell → List (ℕ × Cell)
@@ -34,10 +35,14 @@ abbrev pub is_among : Cell → List Cell → Bool
 is_among c [] = false
 is_among c (d ∷ ds) = if bytes_eq c d then true else is_among c ds
 
+-- the words with a cell behind them, where it is a new one
+abbrev pub with_word : Cell → List Cell → List Cell
+with_word c words = if is_among c words then words else words ++ c ∷ []
+
 -- the different cells after those that were seen, in the order of their first appearance
 abbrev pub distinct_after : List Cell → List Cell → List Cell
 distinct_after seen [] = seen
-distinct_after seen (c ∷ cells) = distinct_after (if is_among c seen then seen else seen ++ c ∷ []) cells
+distinct_after seen (c ∷ cells) = distinct_after (with_word c seen) cells
 
 -- where a cell stands among the words, from 0
 abbrev pub place : Cell → List Cell → ℕ
@@ -65,3 +70,12 @@ page cells = shorter (shorter (plain cells) (run_length cells)) (dictionary cell
 -- the page of a column's cells
 abbrev pub page_of : Column → List Value → List ℕ
 page_of column cells = page (map (cell_bytes column) cells)
+
+-- each cell fits the column
+abbrev pub AllFit : Column → List Value → Type 0
+AllFit column cells = All (λ v. IsTrue (fits column v)) cells
+
+-- the first cell, if there is one, is another one than c
+abbrev pub FirstDiffers : Cell → List Cell → Type 0
+FirstDiffers c [] = ⊤
+FirstDiffers c (d ∷ ds) = bytes_eq d c ≡ false

@@ -2,7 +2,10 @@
 #![tactic(auto)]
 
 mod faults;
+mod plain;
 mod reads;
+mod runs;
 mod values;
+mod words;
 
 pub use faults::PageFault;
