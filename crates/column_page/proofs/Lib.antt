@@ -2,3 +2,5 @@ pub mod OneCell
 pub mod RunFacts
 pub mod Joined
 pub mod WordFacts
+pub mod ReadFacts
+pub mod PageFacts

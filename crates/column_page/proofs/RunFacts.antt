@@ -6,6 +6,11 @@ use Rattle.std.proofs.lemmas.Bool.{false≢true, false_from_ne_true}
 use Rattle.std.specs.Prelude.{if◌then◌else◌}
 use Rattle.std.proofs.lemmas.List.{append_assoc, drop_more, drop-drop, length-drop, replicate_more}
 use Rattle.std.proofs.lemmas.Slice.Eq.{bytes_eq-Decides}
+use Rattle.std.specs.Prelude.{All}
+use Rattle.std.proofs.Common.{inl, inr}
+use Rattle.std.proofs.lemmas.Bool.{cases_Bool}
+use Rattle.std.proofs.lemmas.List.Elements.{All-cons, All-head, All-nil, All-tail}
+use Rattle.column_page.specs.Reading.{expanded}
 use Rattle.column_page.specs.Page.{Cell, FirstDiffers, put_run, run_bytes, runs}
 
 differs_back : (c d : Cell) → bytes_eq d c ≡ false → bytes_eq c d ≡ false
@@ -65,3 +70,42 @@ longer_run xs i first d lt so_far at =
     ∙ ap (λ (t : List Cell). replicate i first ++ t) (drop_more xs i d lt ∙ ap (λ (c : Cell). c ∷ drop (i + 1) xs) at)
     ∙ sym (append_assoc (replicate i first) (first ∷ []) (drop (i + 1) xs))
     ∙ ap (λ (t : List Cell). t ++ drop (i + 1) xs) (replicate_more i first)
+
+-- ---- runs stand for their cells
+
+expanded-put_run : (c : Cell) (rs : List (ℕ × Cell)) → expanded (put_run c rs) ≡ c ∷ expanded rs
+expanded-put_run c [] = refl
+expanded-put_run c (r ∷ rs) = elim (cases_Bool (bytes_eq c r.1)) [
+  | inl e ↦
+    let same : c ≡ r.1 = (bytes_eq-Decides c r.1).0 e in
+    let k : r.0 + 1 ≡ suc r.0 = omega arith in
+    rw (e, k) (ap (λ (x : Cell). c ∷ (replicate r.0 x ++ expanded rs)) same)
+  | inr n ↦ rw n refl
+]
+
+pub expanded-runs : (cells : List Cell) → expanded (runs cells) ≡ cells
+expanded-runs [] = refl
+expanded-runs (c ∷ cells) = expanded-put_run c (runs cells) ∙ ap (λ (t : List Cell). c ∷ t) (expanded-runs cells)
+
+put_run_all : (P : Cell → Type 0) (c : Cell) (rs : List (ℕ × Cell)) → P c → All (λ r. P r.1) rs → All (λ r. P r.1) (put_run c rs)
+put_run_all P c [] p all = All-cons (λ (r : ℕ × Cell). P r.1) (1, c) [] p (All-nil (λ (r : ℕ × Cell). P r.1))
+put_run_all P c (r ∷ rs) p all = let Q : ℕ × Cell → Type 0 = λ q. P q.1 in elim (cases_Bool (bytes_eq c r.1)) [
+  | inl e ↦ rw e (All-cons Q (r.0 + 1, c) rs p (All-tail Q r rs all))
+  | inr n ↦ rw n (All-cons Q (1, c) (r ∷ rs) p all)
+]
+
+-- what holds of each cell holds of the cell of each run
+pub runs_all : (P : Cell → Type 0) (cells : List Cell) → All P cells → All (λ r. P r.1) (runs cells)
+runs_all P [] all = All-nil (λ (r : ℕ × Cell). P r.1)
+runs_all P (c ∷ cells) all = put_run_all P c (runs cells) (All-head P c cells all) (runs_all P cells (All-tail P c cells all))
+
+put_run_few : (c : Cell) (rs : List (ℕ × Cell)) → length (put_run c rs) ≤ suc (length rs)
+put_run_few c [] = omega arith
+put_run_few c (r ∷ rs) = elim (cases_Bool (bytes_eq c r.1)) [
+  | inl e ↦ rw e (omega arith)
+  | inr n ↦ rw n (omega arith)
+]
+
+pub runs_few : (cells : List Cell) → length (runs cells) ≤ length cells
+runs_few [] = omega arith
+runs_few (c ∷ cells) = let a = put_run_few c (runs cells) in let b = runs_few cells in omega arith

@@ -1,6 +1,10 @@
 -- The different cells, and their places.
 use Rattle.std.proofs.Common.{◌≡◌, ℕ, zero, suc, ◌+◌, ◌<◌, List, [], ◌∷◌, ◌++◌, length, get_or, refl, sym, ap, ◌∙◌, arith, subst, Bool, true, false, cond, inl, inr, IsTrue}
-use Rattle.std.specs.Prelude.{Option, Some, None, if◌then◌else◌, is_some}
+use Rattle.std.proofs.Common.{◌≤◌}
+use Rattle.std.proofs.Math.Numerals.{add-one}
+use Rattle.std.proofs.lemmas.List.{length_push}
+use Rattle.std.proofs.lemmas.List.Elements.{All-head, All-nil, All-push, All-tail}
+use Rattle.std.specs.Prelude.{All, Option, Some, None, if◌then◌else◌, is_some}
 use Rattle.std.specs.List.{concat, flat_map}
 use Rattle.std.specs.Str.{bytes_eq}
 use Rattle.std.proofs.lemmas.Bool.{cases_Bool, false≢true, false_from_ne_true}
@@ -94,3 +98,47 @@ not_found c ws h = elim (cases_Bool (is_among c ws)) [
 
 pub with_new : (c : Cell) (ws : List Cell) → is_among c ws ≡ false → ws ++ c ∷ [] ≡ with_word c ws
 with_new c ws n = rw n refl
+
+-- ---- words and places
+
+pub place-lt : (c : Cell) (ws : List Cell) → is_among c ws ≡ true → place c ws < length ws
+place-lt c [] h = absurd (false≢true h)
+place-lt c (w ∷ ws) h = elim (cases_Bool (bytes_eq c w)) [
+  | inl e ↦ rw e (omega arith)
+  | inr n ↦ let h' : is_among c ws ≡ true = rw n at h in rw n (let k = place-lt c ws h' in omega (arith, k))
+]
+
+-- at its place stands the word
+pub at_place : (c d : Cell) (ws : List Cell) → is_among c ws ≡ true → get_or ws (place c ws) d ≡ c
+at_place c d [] h = absurd (false≢true h)
+at_place c d (w ∷ ws) h = elim (cases_Bool (bytes_eq c w)) [
+  | inl e ↦ rw e (sym ((bytes_eq-Decides c w).0 e))
+  | inr n ↦ let h' : is_among c ws ≡ true = rw n at h in rw (n, add-one (place c ws)) (at_place c d ws h')
+]
+
+with_word_few : (c : Cell) (ws : List Cell) → length (with_word c ws) ≤ length ws + 1
+with_word_few c ws = elim (cases_Bool (is_among c ws)) [
+  | inl a ↦ rw a (omega arith)
+  | inr n ↦ rw n (let k = length_push ws c in omega (arith, k))
+]
+
+distinct_few : (seen cells : List Cell) → length (distinct_after seen cells) ≤ length seen + length cells
+distinct_few seen [] = omega arith
+distinct_few seen (c ∷ cells) = let a = with_word_few c seen in let b = distinct_few (with_word c seen) cells in omega arith
+
+pub words_few : (cells : List Cell) → length (distinct_after [] cells) ≤ length cells
+words_few cells = let k = distinct_few [] cells in omega arith
+
+with_word_all : (P : Cell → Type 0) (c : Cell) (ws : List Cell) → P c → All P ws → All P (with_word c ws)
+with_word_all P c ws p all = elim (cases_Bool (is_among c ws)) [
+  | inl a ↦ rw a all
+  | inr n ↦ rw n (All-push P ws c all p)
+]
+
+distinct_all : (P : Cell → Type 0) (seen cells : List Cell) → All P seen → All P cells → All P (distinct_after seen cells)
+distinct_all P seen [] s all = s
+distinct_all P seen (c ∷ cells) s all = distinct_all P (with_word c seen) cells (with_word_all P c seen (All-head P c cells all) s) (All-tail P c cells all)
+
+-- what holds of each cell holds of each word
+pub words_all : (P : Cell → Type 0) (cells : List Cell) → All P cells → All P (distinct_after [] cells)
+words_all P cells all = distinct_all P [] cells (All-nil P) all

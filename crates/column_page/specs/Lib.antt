@@ -1,3 +1,4 @@
 pub mod CellBytes
 pub mod Page
 pub mod Words
+pub mod Reading

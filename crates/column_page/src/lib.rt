@@ -1,7 +1,9 @@
 //! Pages: the cells of one column in a block, in the shortest of three forms.
 #![tactic(auto)]
 
+mod decode;
 mod faults;
+mod pages;
 mod plain;
 mod reads;
 mod runs;
@@ -9,3 +11,4 @@ mod values;
 mod words;
 
 pub use faults::PageFault;
+pub use pages::{decode_page, encode_page};

@@ -1,4 +1,4 @@
-ghost use Rattle.std.specs.Prelude.{◌≡◌, ◌≤◌, ◌<◌, ◌^◌, ◌++◌, Err, IfOk, IfSome, IfNone, IsTrue, length, take, drop};
+ghost use Rattle.std.specs.Prelude.{◌≡◌, ◌≤◌, ◌<◌, ◌^◌, ◌++◌, IfErr, IfOk, IfSome, IfNone, IsTrue, length, take, drop};
 ghost use Rattle.byteorder.specs.Endian.{big_number};
 ghost use Rattle.pk_values.specs.Fits.{fits, fits_kind};
 ghost use Rattle.pk_values.specs.Schemas.{is_kind};
@@ -20,7 +20,7 @@ pub struct ReadValue {
 fn read_flag(bytes: &[u8]) -> Result<ReadValue, PageFault>
     ensures shape { IfOk result (λ r. IsFlag r.value) }
     ensures first { IfOk result (λ r. StandsFirst flag_bytes r.value r.len bytes.now) }
-    ensures none { result ≡ Err PageFault.NotAPage → NoneFirst IsFlag flag_bytes bytes.now }
+    ensures none { IfErr result (λ e. e ≡ PageFault.NotAPage → NoneFirst IsFlag flag_bytes bytes.now) }
 {
     let flag = match bytes {
         [0, ..] => false,
@@ -38,7 +38,7 @@ fn read_number<const W: usize>(bytes: &[u8]) -> Result<ReadValue, PageFault>
     requires high { W ≤ 16 }
     ensures shape { IfOk result (λ r. IsNumber W r.value) }
     ensures first { IfOk result (λ r. StandsFirst (number_bytes W) r.value r.len bytes.now) }
-    ensures none { result ≡ Err PageFault.NotAPage → NoneFirst (IsNumber W) (number_bytes W) bytes.now }
+    ensures none { IfErr result (λ e. e ≡ PageFault.NotAPage → NoneFirst (IsNumber W) (number_bytes W) bytes.now) }
 {
     match bytes.first_chunk::<W>() {
         Some(code) => Ok(ReadValue {
@@ -52,7 +52,7 @@ fn read_number<const W: usize>(bytes: &[u8]) -> Result<ReadValue, PageFault>
 fn read_day(bytes: &[u8]) -> Result<ReadValue, PageFault>
     ensures shape { IfOk result (λ r. IsDay r.value) }
     ensures first { IfOk result (λ r. StandsFirst day_bytes r.value r.len bytes.now) }
-    ensures none { result ≡ Err PageFault.NotAPage → NoneFirst IsDay day_bytes bytes.now }
+    ensures none { IfErr result (λ e. e ≡ PageFault.NotAPage → NoneFirst IsDay day_bytes bytes.now) }
 {
     match bytes.first_chunk::<4>() {
         Some(code) => Ok(ReadValue {
@@ -65,7 +65,7 @@ fn read_day(bytes: &[u8]) -> Result<ReadValue, PageFault>
 
 /// The number in the first two bytes, the high one first.
 pub fn read_u16(bytes: &[u8]) -> Option<u16>
-    ensures some { IfSome result (λ n. (2 ≤ length bytes.now) × (take 2 bytes.now ≡ u16_bytes n)) }
+    ensures some { IfSome result (λ n. (n < 2 ^ 16) × (2 ≤ length bytes.now) × (take 2 bytes.now ≡ u16_bytes n)) }
     ensures none { IfNone result (length bytes.now < 2) }
 {
     if bytes.len() < 2 {
@@ -77,7 +77,7 @@ pub fn read_u16(bytes: &[u8]) -> Option<u16>
 fn read_text(alloc: Global, bytes: &[u8]) -> Result<ReadValue, PageFault>
     ensures shape { IfOk result (λ r. IsText r.value) }
     ensures first { IfOk result (λ r. StandsFirst text_bytes r.value r.len bytes.now) }
-    ensures none { result ≡ Err PageFault.NotAPage → NoneFirst IsText text_bytes bytes.now }
+    ensures none { IfErr result (λ e. e ≡ PageFault.NotAPage → NoneFirst IsText text_bytes bytes.now) }
 {
     let Some(number) = read_u16(bytes) else {
         return Err(PageFault::NotAPage);
@@ -98,7 +98,7 @@ fn read_text(alloc: Global, bytes: &[u8]) -> Result<ReadValue, PageFault>
 fn read_value(alloc: Global, kind: Kind, bytes: &[u8]) -> Result<ReadValue, PageFault>
     ensures shape { IfOk result (λ r. HasShape kind r.value) }
     ensures first { IfOk result (λ r. StandsFirst (value_bytes kind) r.value r.len bytes.now) }
-    ensures none { result ≡ Err PageFault.NotAPage → NoneFirst (HasShape kind) (value_bytes kind) bytes.now }
+    ensures none { IfErr result (λ e. e ≡ PageFault.NotAPage → NoneFirst (HasShape kind) (value_bytes kind) bytes.now) }
 {
     match kind {
         Kind::Boolean => read_flag(bytes),
@@ -117,7 +117,7 @@ fn read_fitting(alloc: Global, kind: Kind, bytes: &[u8]) -> Result<ReadValue, Pa
     requires { IsTrue (is_kind kind) }
     ensures fits { IfOk result (λ r. IsTrue (fits_kind kind r.value)) }
     ensures first { IfOk result (λ r. StandsFirst (value_bytes kind) r.value r.len bytes.now) }
-    ensures none { result ≡ Err PageFault.NotAPage → NoneFirst (λ v. IsTrue (fits_kind kind v)) (value_bytes kind) bytes.now }
+    ensures none { IfErr result (λ e. e ≡ PageFault.NotAPage → NoneFirst (λ v. IsTrue (fits_kind kind v)) (value_bytes kind) bytes.now) }
 {
     let read = read_value(alloc, kind, bytes)?;
     if kind.fits(&read.value) {
@@ -132,7 +132,7 @@ pub fn read_cell(alloc: Global, column: &Column, bytes: &[u8]) -> Result<ReadVal
     requires { IsTrue (is_kind column.now.kind) }
     ensures fits { IfOk result (λ r. IsTrue (fits column.now r.value)) }
     ensures first { IfOk result (λ r. StandsFirst (cell_bytes column.now) r.value r.len bytes.now) }
-    ensures none { result ≡ Err PageFault.NotAPage → NoneFirst (λ v. IsTrue (fits column.now v)) (cell_bytes column.now) bytes.now }
+    ensures none { IfErr result (λ e. e ≡ PageFault.NotAPage → NoneFirst (λ v. IsTrue (fits column.now v)) (cell_bytes column.now) bytes.now) }
 {
     if !column.nullable {
         return read_fitting(alloc, column.kind, bytes);
