@@ -2,3 +2,4 @@ pub mod CellBytes
 pub mod Page
 pub mod Words
 pub mod Reading
+pub mod Footers

@@ -3,6 +3,7 @@
 
 mod decode;
 mod faults;
+mod footers;
 mod pages;
 mod plain;
 mod reads;
@@ -11,4 +12,8 @@ mod values;
 mod words;
 
 pub use faults::PageFault;
+pub use footers::{BlockMark, ColumnMark, Footer, Span};
 pub use pages::{decode_page, encode_page};
+
+#[cfg(test)]
+mod tests;
