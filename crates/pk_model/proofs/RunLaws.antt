@@ -3,13 +3,13 @@ use Rattle.std.proofs.Common.{◌≡◌, refl, ap, sym, subst, ◌∙◌, List, 
 use Rattle.std.specs.List.{zip, slice_get}
 use Rattle.std.specs.Option.{option_to_list}
 use Rattle.std.proofs.lemmas.Option.{same_Some}
-use Rattle.std.proofs.lemmas.List.{append-nil}
+use Rattle.std.proofs.lemmas.List.{append-nil, length-append}
 use Rattle.std.specs.Ordering.{eq_by_cmp, is_lt, is_le, is_gt, is_eq, ordering_reverse}
 use Rattle.std.specs.declared.cmp.Ordering.{Ordering}
 use Rattle.std.specs.declared.cmp.Ordering.TheVariants.{Less, Equal, Greater}
 use Rattle.std.specs.Cmp.{tied_itself, alike_right, tied_back, eq_by_cmp_equiv}
 use Rattle.std.specs.FinMap.Entries.{find, put, by_order, below_all, is_sorted, where_key}
-use Rattle.std.specs.FinMap.{FinMap, entries, entries_sorted, entries-insert, entries-from_sorted, get, get-entries, get-insert, get-remove, get-from_sorted, insert, remove, same_map, same_entries_map, from_sorted, empty, get-empty, values, len, len-entries}
+use Rattle.std.specs.FinMap.{FinMap, entries, entries_sorted, entries-insert, entries-from_sorted, get, get-entries, get-insert, get-remove, get-from_sorted, insert, remove, same_map, same_entries_map, from_sorted, empty, get-empty, values, keys, len, len-entries}
 use Rattle.pk_values.specs.Order.{key_cmp}
 use Rattle.pk_values.specs.OrderFacts.{key_total, key_exact}
 use Rattle.pk_values.specs.declared.cells.Value.{Value}
@@ -34,7 +34,7 @@ less Less p = refl
 less Equal p = absurd p
 less Greater p = absurd p
 
-equal : (o : Ordering) → is_eq o ≡ true → o ≡ Equal
+pub equal : (o : Ordering) → is_eq o ≡ true → o ≡ Equal
 equal Less i = cc
 equal Equal i = refl
 equal Greater i = cc
@@ -184,25 +184,27 @@ none-ends : (k : List Value) (ks vs : List (List Value)) → length ks ≡ 0 →
 none-ends k [] vs e h = cc
 none-ends k (j ∷ ks) vs e h = absurd (omega arith)
 
-pub taken : (k : List Value) (ks vs fs ws : List (List Value)) (r s : Option (List Value)) → ks ≡ fs ++ option_to_list r → vs ≡ ws ++ option_to_list s → length fs ≡ length ws → (r ≡ None → length ks ≡ 0) → ends_at k (zip ks vs) ≡ true
+even-rest : (ks vs fs ws : List (List Value)) (j row : List Value) → ks ≡ fs ++ j ∷ [] → vs ≡ ws ++ row ∷ [] → length ks ≡ length vs → length fs ≡ length ws
+even-rest ks vs fs ws j row p q e =
+    let a : length ks ≡ length fs + 1 = ap length p ∙ length-append fs (j ∷ []) in
+    let b : length vs ≡ length ws + 1 = ap length q ∙ length-append ws (row ∷ []) in
+    omega arith
+
+pub taken : (k : List Value) (ks vs fs ws : List (List Value)) (r s : Option (List Value)) → ks ≡ fs ++ option_to_list r → vs ≡ ws ++ option_to_list s → length ks ≡ length vs → (r ≡ None → length ks ≡ 0) → ends_at k (zip ks vs) ≡ true
     → IfSome s (λ row. zip ks vs ≡ zip fs ws ++ (k, row) ∷ [])
 taken k ks vs fs ws r None p q e n h = tt
 taken k ks vs fs ws None (Some row) p q e n h = absurd (none-ends k ks vs (n refl) h)
 taken k ks vs fs ws (Some j) (Some row) p q e n h =
+    let even = even-rest ks vs fs ws j row p q e in
     let pairs : zip ks vs ≡ zip (fs ++ j ∷ []) (ws ++ row ∷ []) = λ i. zip (p i) (q i) in
-    let key : j ≡ k = taken-key k fs ws j row e (ap (ends_at k) (sym pairs) ∙ h) in
-    pairs ∙ zip-push fs ws j row e ∙ ap (λ x. zip fs ws ++ (x, row) ∷ []) key
+    let key : j ≡ k = taken-key k fs ws j row even (ap (ends_at k) (sym pairs) ∙ h) in
+    pairs ∙ zip-push fs ws j row even ∙ ap (λ x. zip fs ws ++ (x, row) ∷ []) key
 
-nothing-below : (k : List Value) (fs ws : List (List Value)) → length fs ≡ length ws → length ws ≡ 0 → T (are_below k (zip fs ws))
-nothing-below k [] ws e n = tt
-nothing-below k (f ∷ fs) [] e n = tt
-nothing-below k (f ∷ fs) (w ∷ ws) e n = absurd (omega arith)
-
-pub taken-below : (k : List Value) (ks vs fs ws : List (List Value)) (r s : Option (List Value)) → ks ≡ fs ++ option_to_list r → vs ≡ ws ++ option_to_list s → length fs ≡ length ws → (r ≡ None → length ks ≡ 0) → (s ≡ None → length vs ≡ 0) → ends_at k (zip ks vs) ≡ true
+pub taken-below : (k : List Value) (ks vs fs ws : List (List Value)) (r s : Option (List Value)) → ks ≡ fs ++ option_to_list r → vs ≡ ws ++ option_to_list s → length ks ≡ length vs → (r ≡ None → length ks ≡ 0) → (s ≡ None → length vs ≡ 0) → ends_at k (zip ks vs) ≡ true
     → T (is_sorted key_cmp (zip ks vs)) → T (are_below k (zip fs ws))
 taken-below k ks vs fs ws r None p q e n m h s =
-    let none : length ws ≡ 0 = ap length (sym (append-nil ws) ∙ sym q) ∙ m refl in
-    nothing-below k fs ws e none
+    let none : length ks ≡ 0 = e ∙ m refl in
+    absurd (none-ends k ks vs none h)
 taken-below k ks vs fs ws None (Some row) p q e n m h s = absurd (none-ends k ks vs (n refl) h)
 taken-below k ks vs fs ws (Some j) (Some row) p q e n m h s =
     sorted-last (zip fs ws) k row (subst (λ es. T (is_sorted key_cmp es)) (taken k ks vs fs ws (Some j) (Some row) p q e n h) s)
@@ -250,6 +252,9 @@ shown-empty = same_map key_total key_exact _ _ (λ q. get-from_sorted key_cmp []
 
 pub rows-shown : (ks vs : List (List Value)) → length ks ≡ length vs → T (is_sorted key_cmp (zip ks vs)) → values (from_sorted {R = key_cmp} (zip ks vs)) ≡ vs
 rows-shown ks vs e h = ap (map (λ e. e.1)) (entries-from_sorted key_cmp (zip ks vs) h) ∙ values-zip ks vs e
+
+pub keys-shown : (ks vs : List (List Value)) → length ks ≡ length vs → T (is_sorted key_cmp (zip ks vs)) → keys (from_sorted {R = key_cmp} (zip ks vs)) ≡ ks
+keys-shown ks vs e h = ap (map (λ e. e.0)) (entries-from_sorted key_cmp (zip ks vs) h) ∙ keys-zip ks vs e
 
 pub len-shown : (es : List Pair) → T (is_sorted key_cmp es) → len (from_sorted {R = key_cmp} es) ≡ length es
 len-shown es h = len-entries (from_sorted {R = key_cmp} es) ∙ ap length (entries-from_sorted key_cmp es h)

@@ -51,6 +51,14 @@ impl Run {
         self.keys.len()
     }
 
+    pub fn copy(&self, alloc: Global) -> Result<Run, AllocError>
+        ensures { IfOk result (λ run. written run ≡ written self.now) }
+    {
+        let keys = copy_keys(alloc, &self.keys)?;
+        let rows = copy_rows(alloc, &self.rows)?;
+        Ok(Run { keys, rows })
+    }
+
     pub fn push(&mut self, key: Key, row: Row)
         requires { HasRoom self.old 1 }
         ensures pairs { written self.new ≡ written self.old ++ (key, row) ∷ [] }
@@ -149,4 +157,24 @@ impl Rest {
             None => false,
         }
     }
+}
+
+fn copy_keys(alloc: Global, keys: &[Key]) -> Result<Vec<Key>, AllocError>
+    ensures { IfOk result (λ copies. copies.items ≡ keys.now) }
+{
+    let mut copies = Vec::with_capacity(alloc, keys.len())?;
+    for key in keys {
+        copies.push(key.copy(alloc)?)?;
+    }
+    Ok(copies)
+}
+
+fn copy_rows(alloc: Global, rows: &[Row]) -> Result<Vec<Row>, AllocError>
+    ensures { IfOk result (λ copies. copies.items ≡ rows.now) }
+{
+    let mut copies = Vec::with_capacity(alloc, rows.len())?;
+    for row in rows {
+        copies.push(row.copy(alloc)?)?;
+    }
+    Ok(copies)
 }

@@ -10,7 +10,7 @@ pub returns-clause-found : goal.returns-clause-found
 returns-clause-found c =
     let old = c.args.self.now in
     taken c.args.key.now old.keys.items old.rows.items c.pop.new.self.items c.pop-2.new.self.items c.pop.result c.pop-2.result
-    c.pop.ensures.items c.pop-2.ensures.items c.self-1.given.0
+    c.pop.ensures.items c.pop-2.ensures.items old.even
     (λ e. sym old.keys.ok.0 ∙ (MatchOption-at_none _ _ e c.pop.ensures.cases).0)
     (sym c.ends_at.ensures ∙ c.if-not-ends_at.false)
 
@@ -18,7 +18,7 @@ pub returns-clause-below : goal.returns-clause-below
 returns-clause-below c = λ s u.
     let old = c.args.self.now in
     taken-below c.args.key.now old.keys.items old.rows.items c.pop.new.self.items c.pop-2.new.self.items c.pop.result c.pop-2.result
-    c.pop.ensures.items c.pop-2.ensures.items c.self-1.given.0
+    c.pop.ensures.items c.pop-2.ensures.items old.even
     (λ e. sym old.keys.ok.0 ∙ (MatchOption-at_none _ _ e c.pop.ensures.cases).0)
     (λ e. sym old.rows.ok.0 ∙ (MatchOption-at_none _ _ e c.pop-2.ensures.cases).0)
     (sym c.ends_at.ensures ∙ c.if-not-ends_at.false) s
