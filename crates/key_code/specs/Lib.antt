@@ -1,0 +1,4 @@
+pub mod Escapes
+pub mod Faults
+pub mod KeyCode
+pub mod Shapes

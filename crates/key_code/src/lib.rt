@@ -1,0 +1,9 @@
+//! Keys as bytes that compare as the keys do.
+#![tactic(auto)]
+
+mod encoding;
+mod escape;
+mod faults;
+
+pub use encoding::encode;
+pub use faults::{DecodeFault, KeyFault};
