@@ -55,14 +55,36 @@ fn loads_in_file_order_and_reads_in_key_order(rt: HostRuntime) -> Result<(), Fai
     let alloc = rt.alloc();
     let schema = Schema::builtin(alloc)?;
     let mut book = Book::new(alloc);
-    let first = load(alloc, true, upsert(alloc, 2, b"b")?, upsert(alloc, 1, b"a")?)?;
-    let second = load(alloc, true, upsert(alloc, 2, b"c")?, upsert(alloc, 2, b"d")?)?;
+    let first = load(
+        alloc,
+        true,
+        upsert(alloc, 2, b"b")?,
+        upsert(alloc, 1, b"a")?,
+    )?;
+    let second = load(
+        alloc,
+        true,
+        upsert(alloc, 2, b"c")?,
+        upsert(alloc, 2, b"d")?,
+    )?;
     let third = load(alloc, false, delete(alloc, 2)?, upsert(alloc, 2, b"")?)?;
     let fourth = load(alloc, false, upsert(alloc, 1, b"")?, delete(alloc, 2)?)?;
-    assert_eq!(rt; step(alloc, &schema, &mut book, 1, &first)?, Reply::Published(1));
-    assert_eq!(rt; step(alloc, &schema, &mut book, 2, &second)?, Reply::Published(2));
-    assert_eq!(rt; step(alloc, &schema, &mut book, 3, &third)?, Reply::Published(3));
-    assert_eq!(rt; step(alloc, &schema, &mut book, 4, &fourth)?, Reply::Published(4));
+    assert_eq!(rt;
+        step(alloc, &schema, &mut book, 1, &first)?,
+        Reply::Published(1)
+    );
+    assert_eq!(rt;
+        step(alloc, &schema, &mut book, 2, &second)?,
+        Reply::Published(2)
+    );
+    assert_eq!(rt;
+        step(alloc, &schema, &mut book, 3, &third)?,
+        Reply::Published(3)
+    );
+    assert_eq!(rt;
+        step(alloc, &schema, &mut book, 4, &fourth)?,
+        Reply::Published(4)
+    );
     assert_eq!(rt; text(&book, 1, 0), Some(b"a".as_slice()));
     assert_eq!(rt; text(&book, 1, 1), Some(b"b".as_slice()));
     assert_eq!(rt; text(&book, 2, 1), Some(b"d".as_slice()));
@@ -80,8 +102,18 @@ fn compacts_beside_loads_and_expires(rt: HostRuntime) -> Result<(), Fail> {
     let alloc = rt.alloc();
     let schema = Schema::builtin(alloc)?;
     let mut book = Book::new(alloc);
-    let first = load(alloc, true, upsert(alloc, 1, b"a")?, upsert(alloc, 2, b"b")?)?;
-    let second = load(alloc, true, upsert(alloc, 3, b"c")?, upsert(alloc, 3, b"c")?)?;
+    let first = load(
+        alloc,
+        true,
+        upsert(alloc, 1, b"a")?,
+        upsert(alloc, 2, b"b")?,
+    )?;
+    let second = load(
+        alloc,
+        true,
+        upsert(alloc, 3, b"c")?,
+        upsert(alloc, 3, b"c")?,
+    )?;
     let late = load(alloc, true, upsert(alloc, 1, b"z")?, delete(alloc, 2)?)?;
     let compacted = Reply::Compacted {
         before: 3,
@@ -95,17 +127,47 @@ fn compacts_beside_loads_and_expires(rt: HostRuntime) -> Result<(), Fail> {
         rows: 2,
         rowsets: 2,
     };
-    assert_eq!(rt; step(alloc, &schema, &mut book, 1, &first)?, Reply::Published(1));
-    assert_eq!(rt; step(alloc, &schema, &mut book, 2, &second)?, Reply::Published(2));
-    assert_eq!(rt; step(alloc, &schema, &mut book, 3, &Call::Begin)?, Reply::Begun(2));
-    assert_eq!(rt; step(alloc, &schema, &mut book, 4, &Call::Begin)?, Reply::Busy(2));
-    assert_eq!(rt; step(alloc, &schema, &mut book, 5, &late)?, Reply::Published(3));
-    assert_eq!(rt; step(alloc, &schema, &mut book, 6, &Call::End(4))?, Reply::NoPlan);
-    assert_eq!(rt; step(alloc, &schema, &mut book, 7, &Call::End(3))?, compacted);
+    assert_eq!(rt;
+        step(alloc, &schema, &mut book, 1, &first)?,
+        Reply::Published(1)
+    );
+    assert_eq!(rt;
+        step(alloc, &schema, &mut book, 2, &second)?,
+        Reply::Published(2)
+    );
+    assert_eq!(rt;
+        step(alloc, &schema, &mut book, 3, &Call::Begin)?,
+        Reply::Begun(2)
+    );
+    assert_eq!(rt;
+        step(alloc, &schema, &mut book, 4, &Call::Begin)?,
+        Reply::Busy(2)
+    );
+    assert_eq!(rt;
+        step(alloc, &schema, &mut book, 5, &late)?,
+        Reply::Published(3)
+    );
+    assert_eq!(rt;
+        step(alloc, &schema, &mut book, 6, &Call::End(4))?,
+        Reply::NoPlan
+    );
+    assert_eq!(rt;
+        step(alloc, &schema, &mut book, 7, &Call::End(3))?,
+        compacted
+    );
     assert_eq!(rt; count(&book, 2), Some(3));
-    assert_eq!(rt; step(alloc, &schema, &mut book, 8, &Call::Expire(2))?, Reply::Floor(2));
-    assert_eq!(rt; step(alloc, &schema, &mut book, 9, &Call::Open(Want::At(1)))?, Reply::Expired(2));
-    assert_eq!(rt; step(alloc, &schema, &mut book, 10, &Call::Open(Want::At(9)))?, Reply::NotYet(3));
+    assert_eq!(rt;
+        step(alloc, &schema, &mut book, 8, &Call::Expire(2))?,
+        Reply::Floor(2)
+    );
+    assert_eq!(rt;
+        step(alloc, &schema, &mut book, 9, &Call::Open(Want::At(1)))?,
+        Reply::Expired(2)
+    );
+    assert_eq!(rt;
+        step(alloc, &schema, &mut book, 10, &Call::Open(Want::At(9)))?,
+        Reply::NotYet(3)
+    );
     assert_eq!(rt; step(alloc, &schema, &mut book, 11, &Call::Stat)?, stat);
     assert_eq!(rt; stat.number(), 5);
     assert_eq!(rt; count(&book, 1), None);
