@@ -39,11 +39,13 @@ take-cells : (n a b : ℕ) (given : List ℕ) (cells row : List Value) → n ≤
 take-cells n a b [] cells row l h = refl
 take-cells n a b (c ∷ given) [] row l h = refl
 take-cells n a b (c ∷ given) (v ∷ cells) row l h =
-    let more : (nat_lt c b && rise_within (c + 1) b given) ≡ true = second_true (nat_le a c) (nat_lt c b && rise_within (c + 1) b given) h in
-    let low : a ≤ c = leb-true a c (first_true (nat_le a c) (nat_lt c b && rise_within (c + 1) b given) h) in
+    let rest = rise_within (c + 1) b given in
+    let within : (nat_le a c && nat_lt c b) ≡ true = first_true (nat_le a c && nat_lt c b) rest h in
+    let more : rest ≡ true = second_true (nat_le a c && nat_lt c b) rest h in
+    let low : a ≤ c = leb-true a c (first_true (nat_le a c) (nat_lt c b) within) in
     let here : n ≤ c = omega arith in
     let later : n ≤ c + 1 = omega arith in
-    take-cells n (c + 1) b given cells (slice_set row c v) later (second_true (nat_lt c b) (rise_within (c + 1) b given) more) ∙ take-past n row c v here
+    take-cells n (c + 1) b given cells (slice_set row c v) later more ∙ take-past n row c v here
 
 -- the key of a new row
 take-new : (n : ℕ) (cs : List Column) (key : List Value) → fits_all (take n cs) key ≡ true → take n (key ++ map default_cell (drop n cs)) ≡ key

@@ -85,7 +85,7 @@ module _ (given : List ℕ) (key : List Value) (old mid : List Pair) (r : Option
     upsert-settles s m after p is u a =
         let b = below (old_sorted after (subst (λ es. T (is_sorted key_cmp es)) is (entries_sorted m))) u in
         let same : with_cells given cells (unwrap_or (get m key) (new_row s key)) ≡ row =
-              (λ i. with_cells given cells (unwrap_or (looked m key old mid after r found kept b a is i) (sym p i))) ∙ sym wrote in
+        (λ i. with_cells given cells (unwrap_or (looked m key old mid after r found kept b a is i) (sym p i))) ∙ sym wrote in
         ap (λ w. entries (insert m key w)) same ∙ laid m key old mid after r found kept b a is row ∙ joined after
 
     pub upsert-order : KeepsOrder (Upsert key cells) old new
@@ -171,8 +171,8 @@ rise-sorted (a ∷ []) h = tt
 rise-sorted (a ∷ b ∷ ops) h =
     run.both _ _ (not_after (key_named a) (key_named b) (h 0 a (omega arith) (omega arith)))
     (rise-sorted (b ∷ ops) (λ k d low high.
-        let later : before (get_or (b ∷ ops) (suc k) d) (get_or (b ∷ ops) k d) ≡ false = rw (add-one) at (h (suc k) d (omega arith) (omega arith)) in
-        rw (add-one) later))
+    let later : before (get_or (b ∷ ops) (suc k) d) (get_or (b ∷ ops) k d) ≡ false = rw (add-one) at (h (suc k) d (omega arith) (omega arith)) in
+    rw (add-one) later))
 
 tied : (q k : List Value) → (not (is_lt (key_cmp q k)) && not (is_lt (key_cmp k q))) ≡ eq_by_cmp key_cmp q k
 tied q k = ap (λ o. not (is_lt (key_cmp q k)) && not (is_lt o)) (key_total.antisymm k q) ∙ by (key_cmp q k)

@@ -9,7 +9,7 @@ loop-key-preserved c =
     record {
       same = moved-one _ _ _ _ _ c.push.ensures.pairs left ∙ c.loop-key.invariant.same;
       behind = λ u. subst (λ es. T (are_up_to c.args.key.now es)) (sym c.push.ensures.pairs) (up_to-append c.args.key.now _ _ (c.loop-key.invariant.behind u) c.in-Some.ensures.up_to);
-      room = λ n h. c.push.ensures.room (length (unread c.next_up_to.new.self) + n) (room-more c.loop-key.self _ _ _ n left (c.loop-key.invariant.room n h))
+      room = λ n h. c.push.ensures.room (length (unread c.next_up_to.new.self) + n) (room-more c.loop-key.self _ _ _ n left (c.loop-key.invariant.room n h));
     }
 
 pub returns-clause-room : goal.returns-clause-room
