@@ -142,12 +142,7 @@ fn status_of(outcomes: &[Outcome]) -> u8
 }
 
 // The report of the outcomes of a load and a scan.
-fn tell(
-    alloc: Global,
-    order: &[Item],
-    first: Outcome,
-    last: Outcome,
-) -> Result<Told, AllocError>
+fn tell(alloc: Global, order: &[Item], first: Outcome, last: Outcome) -> Result<Told, AllocError>
     ensures text { IfOk result (λ told. told.text.items ≡ report order.now (first ∷ last ∷ [])) }
     ensures status { IfOk result (λ told. told.status ≡ status_of (first ∷ last ∷ [])) }
 {
