@@ -1,5 +1,5 @@
 -- What a run reports: the replies of one book to the jobs in the order of their turns.
-use Rattle.std.specs.Prelude.{◌≡◌, ℕ, ◌+◌, ◌-◌, ◌<◌, List, [], ◌∷◌, ◌++◌, length, Option, Some, None, option_map, option_and_then, find, slice_get, IsSomeAnd, IfSome, Bool as Truth, ◌==◌, ⊤, ◌⊎◌, if◌then◌else◌}
+use Rattle.std.specs.Prelude.{◌≡◌, ℕ, ◌+◌, ◌-◌, ◌<◌, List, [], ◌∷◌, Option, Some, None, option_map, option_and_then, find, slice_get, IsSomeAnd, Bool as Truth, ◌==◌, ⊤, ◌⊎◌, if◌then◌else◌}
 use Rattle.std.specs.List.{list_any}
 use Rattle.std.specs.FinMap as map
 use Rattle.dev_traits.specs.declared.faults.OutsideFault.TheVariants as outside
