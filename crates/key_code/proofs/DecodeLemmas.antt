@@ -85,10 +85,14 @@ same_cell last k v u s t f g ends ends' e =
 -- ---- what `read_cell` answers
 
 pub cell_found : (last : Bool) (k : Kind) (bs : List ℕ) (v : Value) (n : ℕ) → IsFront (HasCode k) (cell_code last k) bs (Some (v, n)) → EndsText last bs (v, n) → fits_kind k v ≡ true → IsCell last k bs (Some (v, n))
-cell_found last k bs v n front ends fits =
-    (fits, front.1, front.2, λ u more begins.
+cell_found last k bs v n front ends fits = (
+  fits,
+  front.1,
+  front.2,
+  λ u more begins.
       let same = same_cell last k v u (drop n bs) more front.0 (has_code k u begins.0) ends begins.1 (sym front.1 ∙ begins.2) in
-      (sym same.0, sym same.1))
+      (sym same.0, sym same.1),
+)
 
 pub cell_unfit : (last : Bool) (k : Kind) (bs : List ℕ) (v : Value) (n : ℕ) → IsFront (HasCode k) (cell_code last k) bs (Some (v, n)) → EndsText last bs (v, n) → fits_kind k v ≡ false → IsCell last k bs None
 cell_unfit last k bs v n front ends unfit u more begins =
@@ -122,12 +126,12 @@ pub narrowed_more : (cs : List Column) (code : List ℕ) (c : Column) (left : Li
     → IsNarrowed cs code left (cells ++ v ∷ []) (drop n rest)
 narrowed_more cs code c left cells rest v n so_far cell = record {
   to = λ vs h.
-    let p = so_far.to vs h in
-    let q = found_rest c left rest v n p.0 cell p.2 in
-    (q.0, p.1 ∙ ap (λ (x : List Value). cells ++ x) q.1 ∙ sym (append_assoc cells (v ∷ []) q.0), q.2);
+      let p = so_far.to vs h in
+      let q = found_rest c left rest v n p.0 cell p.2 in
+      (q.0, p.1 ∙ ap (λ (x : List Value). cells ++ x) q.1 ∙ sym (append_assoc cells (v ∷ []) q.0), q.2);
   from = λ more h.
-    subst (λ (x : List Value). AreCells cs code x) (sym (append_assoc cells (v ∷ []) more))
-    (so_far.from (v ∷ more) ((cell.0, h.0), ap (λ (x : List ℕ). cell_code (no_more left) c.kind v ++ x) h.1 ∙ sym cell.1));
+      subst (λ (x : List Value). AreCells cs code x) (sym (append_assoc cells (v ∷ []) more))
+      (so_far.from (v ∷ more) ((cell.0, h.0), ap (λ (x : List ℕ). cell_code (no_more left) c.kind v ++ x) h.1 ∙ sym cell.1));
 }
 
 none_rest : (c : Column) (cs : List Column) (rest : List ℕ) (us : List Value) → IsCell (no_more cs) c.kind rest None → AreCells (c ∷ cs) rest us → ⊥

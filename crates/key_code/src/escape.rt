@@ -13,9 +13,7 @@ pub fn push_escaped(out: &mut Vec<u8>, text: &[u8]) -> Result<(), AllocError>
             out.push(1)?;
         }
     }
-    out.push(0)?;
-    out.push(0)?;
-    Ok(())
+    out.extend_from_slice(&[0, 0])
 }
 
 /// The text at the front of the bytes and how many bytes it and its end mark take, if one stands there.

@@ -14,7 +14,7 @@ loop-i-preserved c =
     record {
       within = taken_within _ _ c.loop-i.at c.args.bytes.now c.in-Some.value c.in-Some.taken c.in_ok-value.field-0 c.loop-i.invariant.within c.in-Some.is cell;
       narrowed = more_at c.args.columns.now c.args.bytes.now c.loop-i.cells.items c.push.new.self.items c.loop-i.i c.loop-i.at c.index-columns-i.result c.in-Some.value c.in-Some.taken c.in_ok-value.field-0
-        c.loop-i-test.true c.loop-i.invariant.narrowed c.in-Some.is cell c.in_ok-push-in-Some.ensures.items;
+          c.loop-i-test.true c.loop-i.invariant.narrowed c.in-Some.is cell c.in_ok-push-in-Some.ensures.items;
     }
 
 pub returns-then-at-bytes-clause-found : goal.returns-then-at-bytes-clause-found
