@@ -1,26 +1,25 @@
 -- What the front of a code reads as.
-use Rattle.std.proofs.Common.{◌≡◌, ◌≤◌, ◌<◌, ℕ, zero, suc, ◌+◌, ◌-◌, ◌==◌, List, [], ◌∷◌, ◌++◌, Bool, true, false, Option, Some, None, refl, sym, ap, ap₂, subst, ◌∙◌, arith, take, drop, length, get_or}
-use Rattle.std.specs.Prelude.{ℤ, IfSome}
+use Rattle.std.proofs.Common.{◌≡◌, ◌≤◌, ◌<◌, ℕ, ◌+◌, ◌-◌, ◌==◌, List, [], ◌∷◌, ◌++◌, Bool, true, false, Option, Some, None, refl, sym, ap, ap₂, subst, ◌∙◌, arith, take, drop, length, get_or}
+use Rattle.std.specs.Prelude.{IfSome}
 use Rattle.std.specs.Cmp.Lexicographic.{slice_cmp}
 use Rattle.std.specs.Ordering.{nat_cmp, ordering_then}
 use Rattle.std.specs.declared.cmp.Ordering.{Ordering}
 use Rattle.std.specs.declared.cmp.Ordering.TheVariants.{Less, Equal, Greater}
-use Rattle.std.proofs.lemmas.Bool.{and_from, and_parts, false≢true}
+use Rattle.std.proofs.lemmas.Bool.{false≢true}
 use Rattle.std.proofs.lemmas.List.{append-nil, append_assoc, drop-drop, take_all, drop_all, drop_more, length-append, length-drop}
 use Rattle.fixed_code.proofs.Codes.{length-code}
 use Rattle.pk_values.specs.declared.cells.Kind.{Kind}
-use Rattle.pk_values.specs.declared.cells.Kind.TheVariants as kind
 use Rattle.pk_values.specs.declared.cells.Value.{Value}
 use Rattle.pk_values.specs.declared.cells.Value.TheVariants as value
 use Rattle.pk_values.specs.declared.cells.Column.{Column}
-use Rattle.pk_values.specs.Fits.{fits, fits_all, fits_kind}
+use Rattle.pk_values.specs.Fits.{fits, fits_kind}
 use Rattle.pk_values.specs.Order.{value_cmp}
 use Rattle.pk_values.specs.OrderFacts.{value_exact}
 use Rattle.key_code.specs.Escapes.{escaped, unescaped}
-use Rattle.key_code.specs.Shapes.{HasCode, IsDay, IsNumber, IsText, IsTruth}
-use Rattle.key_code.specs.KeyCode.{cell_code, cells_code, day_code, no_more, numeric_code, text_code, truth_code}
-use Rattle.key_code.specs.Keys.{AreCells, AreOfKinds, HaveNoCells}
-use Rattle.key_code.specs.Reads.{BeginsWith, EndsText, IsCell, IsFront}
+use Rattle.key_code.specs.Shapes.{HasCode, IsNumber, IsText}
+use Rattle.key_code.specs.KeyCode.{cell_code, cells_code, no_more, numeric_code, text_code}
+use Rattle.key_code.specs.Keys.{AreCells, HaveNoCells}
+use Rattle.key_code.specs.Reads.{EndsText, IsCell, IsFront}
 use Rattle.key_code.proofs.Parts.{FitOne, Part, cmp_part, flag, number, part_code, text}
 use Rattle.key_code.proofs.KeyOrder.{escaped_then, number_then, reads_back, reads_only, same_list, then_parts}
 use Rattle.key_code.proofs.KeyLemmas.{IsTextPart, a_text, code_is, facts, has_code, last_is, no_more_is, part_of, text_part}

@@ -1,9 +1,8 @@
 -- Codes of keys compare as the keys do.
 use Rattle.std.proofs.Common.{◌≡◌, ◌≤◌, ◌<◌, ℕ, zero, suc, ◌+◌, ◌-◌, ◌==◌, List, [], ◌∷◌, ◌++◌, Bool, true, false, if◌then◌else◌, Some, None, refl, sym, ap, ap₂, subst, ◌∙◌, arith, take, drop, get_or, length}
-use Rattle.std.specs.Prelude.{ℤ, pos, negsuc, slice_get, IsTrue, ◌&&◌, int_le}
+use Rattle.std.specs.Prelude.{ℤ, pos, negsuc, slice_get, ◌&&◌, int_le}
 use Rattle.std.specs.Cmp.Lexicographic.{slice_cmp}
 use Rattle.std.specs.Ordering.{nat_cmp, ordering_then}
-use Rattle.std.specs.declared.cmp.Ordering.TheVariants.{Equal}
 use Rattle.std.proofs.lemmas.Bool.{and_from, and_parts, leb-true}
 use Rattle.std.proofs.lemmas.Bool.Decides.{nat_tests}
 use Rattle.std.proofs.lemmas.List.{drop_all, drop_more, length-drop}

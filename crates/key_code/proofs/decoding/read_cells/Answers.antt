@@ -1,4 +1,4 @@
-use Rattle.std.proofs.Common.{◌<◌, ◌+◌, ◌==◌, arith, drop, get_or, length}
+use Rattle.std.proofs.Common.{◌+◌, ◌==◌, arith, drop, get_or, length}
 use Rattle.key_code.proofs.DecodeLemmas.{found_at_end, more_at, none_at, none_at_end, piece_cell, take_rest, taken_within}
 use Rattle.key_code.proofs.decoding.read_cells.Goals as goal
 
