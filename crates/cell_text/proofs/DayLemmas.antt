@@ -2,16 +2,13 @@
 use Rattle.std.proofs.Common.{◌≡◌, ℕ, ◌+◌, ◌-◌, ◌*◌, ◌==◌, Option, if◌then◌else◌, true, false, Bool, Some, None, List, length, refl, ap, sym, ◌∙◌, ◌≤◌, zero, suc, ◌&&◌, arith, cond}
 use Rattle.std.specs.Prelude.{ℤ, pos, ◌+ℤ◌, slice_index, int_le, nat_le}
 use Rattle.std.specs.Int.{IsInRange}
-use Rattle.std.specs.Prelude.{Result, Ok, Err, OnOk}
 use Rattle.std.proofs.lemmas.Bool.{and_from, and_parts, eq-eqb, le-leb, leb-true}
 use borrow.Author.Differences.{true_is_le}
-use Rattle.std.proofs.Common.{[], ◌∷◌, ◌++◌, negsuc, ◌-ℤ◌, ◌<ℤ◌, ◌≤ℤ◌}
-use Rattle.jiff_core.specs.Calendar.{IsCivilDate, IsYear, day_count, day_of_year, days_from_civil, days_in_month}
+use Rattle.std.proofs.Common.{negsuc, ◌-ℤ◌, ◌<ℤ◌, ◌≤ℤ◌}
+use Rattle.jiff_core.specs.Calendar.{IsCivilDate, day_count, day_of_year, days_from_civil, days_in_month}
 use Rattle.jiff_core.proofs.CalendarLemmas.{day_count-lt_year, days_from_civil-day_count, day_count_bounds, day_count-day_of_year, days_in_month_bounds}
 use Rattle.jiff_core.proofs.MarchLemmas.{day_count-early}
 use Rattle.jiff_core.proofs.SignedLemmas.{signed_arith}
-use Rattle.jiff.specs.Words.{date_text}
-use Rattle.jiff_fmt.specs.Text.{pad2, year_text}
 use Rattle.jiff_core.specs.Date.{epoch_day}
 use Rattle.jiff_core.specs.declared.civil.date.Date.{Date}
 use Rattle.cell_text.specs.Days.{are_two, civil_day, day_number, day_of, exists_date, has_date_form, is_digit, two_at}
@@ -44,7 +41,7 @@ day_count-zero : day_count (pos 0) 1 1 ≡ 3652425
 day_count-zero = day_count-early (pos 0) 9999 1 1 refl (omega arith) (omega arith) (omega arith)
 
 -- a day from 0000-01-01 on has a year from 0 on
-year_from : (y : ℤ) (m d : ℕ) (day : ℤ) → IsCivilDate y m d → pos 0 ≤ℤ day → days_from_civil y m d ≡ day -ℤ pos 719528 → (n : ℕ) × (y ≡ pos n)
+pub year_from : (y : ℤ) (m d : ℕ) (day : ℤ) → IsCivilDate y m d → pos 0 ≤ℤ day → days_from_civil y m d ≡ day -ℤ pos 719528 → (n : ℕ) × (y ≡ pos n)
 year_from (pos n) m d day civil low e = (n, refl)
 year_from (negsuc n) m d day civil low e =
     let earlier : negsuc n <ℤ pos 0 = omega (arith, signed_arith) in
@@ -61,12 +58,16 @@ civil_from y m d few e =
     let c = and_parts (nat_le 1 d) _ b.1 in
     ((omega (arith, signed_arith), omega (arith, signed_arith)), (leb-true 1 m a.0, leb-true m 12 b.0), (leb-true 1 d c.0, leb-true d (days_in_month (pos y) m) c.1))
 
+-- no date of a year comes before its first day
+pub not_before_in_year : (y m d : ℕ) → IsCivilDate (pos y) m d → day_count (pos y) 1 1 ≤ day_count (pos y) m d
+not_before_in_year y m d civil =
+    let place = day_count-day_of_year (pos y) m d civil.2.0 in
+    let first : 1 ≤ day_of_year (pos y) m d = let one = civil.2.0 in omega arith in
+    omega arith
+
 -- no date from year 0 on comes before 0000-01-01
 not_before : (y m d : ℕ) → IsCivilDate (pos y) m d → day_count (pos 0) 1 1 ≤ day_count (pos y) m d
-not_before zero m d civil =
-    let place = day_count-day_of_year (pos 0) m d civil.2.0 in
-    let first : 1 ≤ day_of_year (pos 0) m d = let one = civil.2.0 in omega arith in
-    omega arith
+not_before zero m d civil = not_before_in_year 0 m d civil
 not_before (suc y) m d civil =
     let earlier : pos 0 <ℤ pos (suc y) = omega (arith, signed_arith) in
     let jan : IsCivilDate (pos 0) 1 1 = ((omega (arith, signed_arith), omega (arith, signed_arith)), (omega arith, omega arith), (omega arith, omega (arith, days_in_month_bounds (pos 0) 1))) in

@@ -1,6 +1,6 @@
 -- What decimal digits spell.
 use Rattle.std.proofs.Common.{◌≡◌, refl, sym, ◌∙◌, ap, ℕ, ◌+◌, ◌-◌, ◌*◌, ◌≤◌, ◌<◌, List, [], ◌∷◌, Option, Some, None, IfSome, Bool, true, false, arith, if◌then◌else◌, length, drop, get_or, suc}
-use Rattle.std.specs.Prelude.{option_and_then, nat_le}
+use Rattle.std.specs.Prelude.{option_and_then}
 use Rattle.std.proofs.Math.Seq.{drop-cons}
 use Rattle.std.proofs.lemmas.Bool.{le-leb, lt-leb}
 use Rattle.cell_text.specs.Days.{is_digit}

@@ -1,7 +1,7 @@
 -- How an answer tells what was read.
 use Rattle.std.specs.Prelude.{◌≡◌, ℕ, ◌-◌, ◌*◌, ◌^◌, ℤ, Option, Some, None, IsSome, option_and_then, Result, Ok, Err, List, length, nat_le, if◌then◌else◌}
 use Rattle.pk_values.specs.declared.cells.Value.{Value}
-use Rattle.pk_values.specs.declared.cells.Value.TheVariants.{Num, Text}
+use Rattle.pk_values.specs.declared.cells.Value.TheVariants.{Text}
 use Rattle.pk_values.specs.Fits.{in_range}
 use Rattle.cell_text.specs.Cells.{number_of}
 use Rattle.cell_text.specs.declared.faults.CellFault.{CellFault}

@@ -1,5 +1,5 @@
 -- The text of a cell in a report.
-use Rattle.std.specs.Prelude.{◌≡◌, ℕ, ℤ, pos, ◌≤ℤ◌, List, [], ◌∷◌, ◌++◌, Bool as Truth, true, false, ◌||◌, ◌==◌, Some, if◌then◌else◌, length, ⊤}
+use Rattle.std.specs.Prelude.{◌≡◌, ℕ, pos, ◌≤ℤ◌, List, [], ◌∷◌, ◌++◌, Bool as Truth, true, false, ◌||◌, ◌==◌, Some, if◌then◌else◌, length, ⊤}
 use Rattle.std.specs.Fmt.{signed_decimal}
 use Rattle.std.specs.List.{list_any}
 use Rattle.pk_values.specs.declared.cells.Value.{Value}
@@ -25,13 +25,17 @@ doubled (b ∷ bs) = if b == 34 then 34 ∷ 34 ∷ doubled bs else b ∷ doubled
 abbrev pub quoted : List ℕ → List ℕ
 quoted text = 34 ∷ (doubled text ++ 34 ∷ [])
 
--- a cell: `\N`, `0` or `1`, a number in decimal digits, a date as `YYYY-MM-DD`, a text, in quotes where it needs them
+-- a text as it is, or in quotes where it needs them
+abbrev pub text_text : List ℕ → List ℕ
+text_text text = if needs_quotes text then quoted text else text
+
+-- a cell: `\N`, `0` or `1`, a number in decimal digits, a date as `YYYY-MM-DD`, a text
 abbrev pub cell_text : Value → List ℕ
 cell_text Null = null_mark
 cell_text (Bool b) = if b then 49 ∷ [] else 48 ∷ []
 cell_text (Num z) = signed_decimal z
 cell_text (Day d) = date_text d
-cell_text (Text t) = if needs_quotes t then quoted t else t
+cell_text (Text t) = text_text t
 
 -- a day from 0000-01-01 to 9999-12-31, or a value of another kind
 abbrev pub IsWritable : Value → Type 0

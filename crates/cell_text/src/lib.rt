@@ -5,6 +5,11 @@ mod dates;
 mod faults;
 mod numbers;
 mod read;
+mod write;
 
 pub use faults::CellFault;
 pub use read::read_cell;
+pub use write::write_cell;
+
+#[cfg(test)]
+mod tests;
