@@ -1,3 +1,6 @@
 mod Calls
 pub mod FileFacts
 mod Files
+mod Keeping
+mod Steps
+mod Growing

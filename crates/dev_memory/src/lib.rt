@@ -5,6 +5,7 @@ mod area;
 mod call;
 mod faults;
 mod inputs;
+mod kept;
 mod maker;
 mod reader;
 mod shared;
