@@ -1,5 +1,5 @@
 -- What is kept, after a call.
-use Rattle.std.proofs.Common.{◌≡◌, ℕ, zero, suc, ◌+◌, ◌≤◌, ◌<◌, nat_le, Bool, true, false, if◌then◌else◌, List, [], ◌∷◌, ◌++◌, length, get_or, set, map, Some, refl, sym, ◌∙◌, ap, subst, arith, length-append}
+use Rattle.std.proofs.Common.{◌≡◌, ℕ, zero, suc, ◌+◌, ◌≤◌, ◌<◌, nat_le, Bool, true, false, if◌then◌else◌, List, [], ◌∷◌, ◌++◌, max, length, get_or, set, take, map, Some, refl, sym, ◌∙◌, ap, subst, arith, length-append}
 use Rattle.std.specs.List.{list_all}
 use Rattle.std.proofs.lemmas.List.{map-set, get_or_default, length-map, set-get_or}
 use Rattle.std.proofs.Math.ListN.{get_or-map}
@@ -63,3 +63,36 @@ pub room-at : (more : ℕ) (views : List AreaView) (a : ℕ) (v : AreaView) → 
 room-at more [] a v rooms lt is = absurd (omega (arith, lt))
 room-at more (w ∷ views) zero v rooms lt is = let here = leb-true more w.room (and_parts (has_room more w) (list_all (has_room more) views) rooms).0 in omega (arith, here, ap (λ (x : AreaView). x.room) is)
 room-at more (w ∷ views) (suc a) v rooms lt is = room-at more views a v (and_parts (has_room more w) (list_all (has_room more) views) rooms).1 (omega (arith, lt)) is
+
+-- Memory is taken area by area.
+
+pub same-step : (views : List AreaView) (a : ℕ) (v old : AreaView) → old ≡ get_or views a old → v.bytes ≡ old.bytes → map bytes_in (set views a v) ≡ map bytes_in views
+same-step views a v old is same =
+    map-set bytes_in views a v
+    ∙ ap (set (map bytes_in views) a) (same ∙ ap bytes_in is ∙ sym (get_or-map bytes_in views a old))
+    ∙ set-get_or (map bytes_in views) a old.bytes
+
+pub rooms-step : (more room : ℕ) (views : List AreaView) (a : ℕ) (v old : AreaView) → a < length views → old ≡ get_or views a old → old.room ≤ v.room → list_all (has_room room) views ≡ true → list_all (has_room room) (set views a v) ≡ true
+rooms-step more room views a v old lt is le rooms = let was = room-at room views a old rooms lt is in rooms-set room views a v rooms (omega (arith, was, le))
+
+none_roomy : (more : ℕ) (views : List AreaView) → list_all (has_room more) (take zero views) ≡ true
+none_roomy more [] = refl
+none_roomy more (v ∷ views) = refl
+
+pub roomy-none : (more : ℕ) (views : List AreaView) → list_all (has_room more) (take 0 views) ≡ true
+roomy-none more views = none_roomy more views
+
+pub roomy-step : (more : ℕ) (views : List AreaView) (a : ℕ) (v : AreaView) → list_all (has_room more) (take a views) ≡ true → more ≤ v.room → list_all (has_room more) (take (suc a) (set views a v)) ≡ true
+roomy-step more [] a v rooms le = refl
+roomy-step more (w ∷ views) zero v rooms le = and_from _ _ (le-leb more v.room le) (none_roomy more views)
+roomy-step more (w ∷ views) (suc a) v rooms le =
+    let parts = and_parts (has_room more w) (list_all (has_room more) (take a views)) rooms in
+    and_from _ _ parts.0 (roomy-step more views a v parts.1 le)
+
+pub rooms-most : (more room : ℕ) (views : List AreaView) → list_all (has_room more) views ≡ true → list_all (has_room room) views ≡ true → list_all (has_room (max more room)) views ≡ true
+rooms-most more room [] a b = refl
+rooms-most more room (v ∷ views) a b =
+    let one = and_parts (has_room more v) (list_all (has_room more) views) a in
+    let other = and_parts (has_room room v) (list_all (has_room room) views) b in
+    let here : max more room ≤ v.room = omega (arith, leb-true more v.room one.0, leb-true room v.room other.0) in
+    and_from _ _ (le-leb (max more room) v.room here) (rooms-most more room views one.1 other.1)

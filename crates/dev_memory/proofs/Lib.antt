@@ -4,3 +4,4 @@ mod Files
 mod Keeping
 mod Steps
 mod Growing
+mod Views

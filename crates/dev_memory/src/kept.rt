@@ -1,4 +1,4 @@
-ghost use Rattle.std.specs.Prelude.{◌≡◌, ◌+◌, ◌≤◌, ◌<◌, ◌++◌, ◌∷◌, [], ℕ, true, false, map, length, option_map, OnOk, OnErr, IfOk};
+ghost use Rattle.std.specs.Prelude.{◌≡◌, ◌+◌, ◌≤◌, ◌<◌, ◌++◌, ◌∷◌, [], ℕ, true, false, nat_eq, ◌&&◌, map, length, option_map, vec_len, vec_capacity, OnOk, OnErr, IfOk};
 ghost use Rattle.std.specs.Ordering.{nat_cmp};
 ghost use Rattle.std.specs.List.{list_all};
 ghost use Rattle.std.specs.FinMap.Entries.{find};
@@ -46,13 +46,19 @@ fn stands(file: &File, calls: u64) -> bool
     file.from <= calls && (calls < file.until || file.until == NEVER)
 }
 
+fn is_standing(file: &File, number: u64, calls: u64) -> bool
+    ensures { result ≡ (nat_eq file.now.number number && stands_at calls file.now) }
+{
+    file.number == number && stands(file, calls)
+}
+
 // The bytes of the first file of a number that stood adopted after so many calls.
 fn find_file(files: &[File], number: u64, calls: u64) -> Option<&SharedBytes>
     ensures { option_map (λ b. b.now) result ≡ find nat_cmp number (entries_at calls files.now) }
 {
     for i in 0..files.len() {
         let file = &files[i];
-        if file.number == number && stands(file, calls) {
+        if is_standing(file, number, calls) {
             return Some(&file.bytes);
         }
     }
@@ -65,15 +71,20 @@ fn is_listed(list: &[u64], number: u64) -> bool
     list.contains(&number)
 }
 
+fn close(file: &mut File, keep: &[u64], now: u64)
+    ensures { file.new ≡ closed keep.now now file.old }
+{
+    if file.until == NEVER && !is_listed(keep, file.number) {
+        file.until = now;
+    }
+}
+
 // Ends each file outside a list by the call of a number.
 fn close_others(files: &mut [File], keep: &[u64], now: u64)
     ensures { files.new ≡ map (closed keep.now now) files.old }
 {
     for i in 0..files.len() {
-        let file = &mut files[i];
-        if file.until == NEVER && !is_listed(keep, file.number) {
-            file.until = now;
-        }
+        close(&mut files[i], keep, now);
     }
 }
 
@@ -88,6 +99,16 @@ fn reserve_all(areas: &mut [Area], more: usize) -> Result<(), Memory>
         area.reserve(more)?;
     }
     Ok(())
+}
+
+// Puts bytes behind others, where there is room for them.
+fn append(bytes: &mut Vec<u8>, piece: &[u8])
+    requires { vec_len bytes.old + length piece.now ≤ vec_capacity bytes.old }
+    ensures items { bytes.new.items ≡ bytes.old.items ++ piece.now }
+    ensures len { vec_len bytes.new ≡ vec_len bytes.old + length piece.now }
+    ensures capacity { vec_capacity bytes.old ≤ vec_capacity bytes.new }
+{
+    bytes.extend_from_slice(piece).unwrap();
 }
 
 impl Kept {
@@ -142,7 +163,7 @@ impl Kept {
         ensures bytes { self.old.spare_bytes ≡ self.new.spare_bytes + length piece.now }
     {
         self.calls.push_reserved(Call::Write(area, at, piece.len(), true));
-        self.pieces.extend_from_slice(piece).unwrap();
+        append(&mut self.pieces, piece);
         self.spare_calls -= 1;
         self.spare_bytes -= piece.len() as u64;
         let written = &mut self.areas[area as usize];
@@ -160,7 +181,7 @@ impl Kept {
         ensures bytes { self.old.spare_bytes ≡ self.new.spare_bytes + length piece.now }
     {
         self.calls.push_reserved(Call::Write(area, at, piece.len(), false));
-        self.pieces.extend_from_slice(piece).unwrap();
+        append(&mut self.pieces, piece);
         self.spare_calls -= 1;
         self.spare_bytes -= piece.len() as u64;
     }
