@@ -1,5 +1,5 @@
 -- The calls, as contracts see them.
-use Rattle.std.proofs.Common.{◌≡◌, ◌≢◌, ◌⊎◌, inl, inr, ℕ, ◌+◌, ◌≤◌, ◌<◌, Bool, true, false, cond, if◌then◌else◌, List, [], ◌∷◌, ◌++◌, length, get_or, set, map, Option, Some, None, refl, sym, ◌∙◌, ap, subst, arith, length-append}
+use Rattle.std.proofs.Common.{◌≡◌, ◌≢◌, ◌⊎◌, inl, inr, ℕ, ◌+◌, ◌≤◌, ◌<◌, Bool, true, false, cond, if◌then◌else◌, List, [], ◌∷◌, ◌++◌, length, get_or, set, map, Option, Some, None, Result, Ok, Err, IfOk, refl, sym, ◌∙◌, ap, subst, arith, length-append}
 use Rattle.std.proofs.lemmas.List.{map-set, get_or-set_other, set-get_or, append-nil}
 use Rattle.std.proofs.lemmas.Map.Views.{list_any-from_Contains}
 use Rattle.std.proofs.lemmas.Cmp.{nat_cmp_total, eq_by_cmp_equiv}
@@ -203,3 +203,11 @@ module _ (h h' : Held) (valid : IsValid h) (keep : List ℕ) (short : length h.d
 pub file_found : (h : Held) (number : ℕ) (found : Option (List ℕ)) → found ≡ find nat_cmp number (entries_at (length h.deeds) h.files) → (image : Image) → Some (read_of (disk_now h)) ≡ Some image → file image number ≡ found
 file_found h number found is image reads =
     ap (λ (x : Image). file x number) (sym (same_read _ image reads)) ∙ get-from_entries nat_cmp_total (entries_at (length h.deeds) h.files) number ∙ sym is
+
+pub if_ok : {T E : Type 0} (r : Result T E) (P Q : T → Type 0) → IfOk r P → ((t : T) → P t → Q t) → IfOk r Q
+if_ok (Ok t) P Q is to = to t is
+if_ok (Err e) P Q is to = tt
+
+-- of a file that is read: its bytes are found
+pub file_read : (h : Held) (number : ℕ) (image : Image) → Some (read_of (disk_now h)) ≡ Some image → file image number ≡ find nat_cmp number (entries_at (length h.deeds) h.files)
+file_read h number image reads = file_found h number (find nat_cmp number (entries_at (length h.deeds) h.files)) refl image reads
