@@ -1,6 +1,7 @@
 pub mod Areas
 pub mod Disk
 pub mod Inputs
+pub mod Kept
 pub mod Laws
 pub mod Maker
 pub mod Reader

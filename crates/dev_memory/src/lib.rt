@@ -5,10 +5,12 @@ mod area;
 mod call;
 mod faults;
 mod inputs;
+mod kept;
 mod maker;
 mod reader;
 mod shared;
 mod sink;
+mod store;
 
 pub use faults::Faults;
 pub use inputs::{MemInputs, MemSource};
@@ -16,6 +18,7 @@ pub use maker::{MemMaker, MemSealed};
 pub use reader::MemReader;
 pub use shared::SharedBytes;
 pub use sink::MemSink;
+pub use store::MemStore;
 
 #[cfg(test)]
 mod tests;
