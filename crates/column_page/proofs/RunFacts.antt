@@ -77,9 +77,9 @@ expanded-put_run : (c : Cell) (rs : List (ℕ × Cell)) → expanded (put_run c 
 expanded-put_run c [] = refl
 expanded-put_run c (r ∷ rs) = elim (cases_Bool (bytes_eq c r.1)) [
   | inl e ↦
-    let same : c ≡ r.1 = (bytes_eq-Decides c r.1).0 e in
-    let k : r.0 + 1 ≡ suc r.0 = omega arith in
-    rw (e, k) (ap (λ (x : Cell). c ∷ (replicate r.0 x ++ expanded rs)) same)
+      let same : c ≡ r.1 = (bytes_eq-Decides c r.1).0 e in
+      let k : r.0 + 1 ≡ suc r.0 = omega arith in
+      rw (e, k) (ap (λ (x : Cell). c ∷ (replicate r.0 x ++ expanded rs)) same)
   | inr n ↦ rw n refl
 ]
 

@@ -54,14 +54,14 @@ place_last c (w ∷ ws) h = elim (cases_Bool (bytes_eq c w)) [
 pub found_more : (c q : Cell) (ws : List Cell) → is_among c ws ≡ false → cond (bytes_eq c q) (Some (length ws)) (found q ws) ≡ found q (ws ++ c ∷ [])
 found_more c q ws h = elim (cases_Bool (bytes_eq c q)) [
   | inl e ↦ let same : c ≡ q = (bytes_eq-Decides c q).0 e in
-    let P : Cell → Type 0 = λ x. cond (bytes_eq c x) (Some (length ws)) (found x ws) ≡ found x (ws ++ c ∷ []) in
-    subst P same (rw (same_cell c, among_last c ws, place_last c ws h) refl)
+      let P : Cell → Type 0 = λ x. cond (bytes_eq c x) (Some (length ws)) (found x ws) ≡ found x (ws ++ c ∷ []) in
+      subst P same (rw (same_cell c, among_last c ws, place_last c ws h) refl)
   | inr n ↦
-    let back : bytes_eq q c ≡ false = false_from_ne_true (bytes_eq q c) (λ t. false≢true (sym n ∙ (bytes_eq-Decides c q).1 (sym ((bytes_eq-Decides q c).0 t)))) in
-    elim (cases_Bool (is_among q ws)) [
-      | inl a ↦ rw (n, among_other q c ws back, a, place_more q c ws a) refl
-      | inr a ↦ rw (n, among_other q c ws back, a) refl
-    ]
+      let back : bytes_eq q c ≡ false = false_from_ne_true (bytes_eq q c) (λ t. false≢true (sym n ∙ (bytes_eq-Decides c q).1 (sym ((bytes_eq-Decides q c).0 t)))) in
+      elim (cases_Bool (is_among q ws)) [
+        | inl a ↦ rw (n, among_other q c ws back, a, place_more q c ws a) refl
+        | inr a ↦ rw (n, among_other q c ws back, a) refl
+      ]
 ]
 
 pub distinct_push : (seen cells : List Cell) (c : Cell) → distinct_after seen (cells ++ c ∷ []) ≡ with_word c (distinct_after seen cells)
