@@ -1,4 +1,5 @@
 pub mod Causes
+pub mod Faults
 pub mod Image
 pub mod Maker
 pub mod Reader

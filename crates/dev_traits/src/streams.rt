@@ -31,7 +31,7 @@ pub enum Put {
     Failed,
 }
 
-/// A stream of bytes that is read to its end.
+/// A stream of bytes that is read to its end. It isn't `Drop`: whoever asked for a source gives it back on every path, so that its faults are counted.
 pub trait Source {
     /// The bytes that are left, where the source tells them.
     ghost left: { Self → Option (List ℕ) };

@@ -1,0 +1,9 @@
+pub mod Areas
+pub mod Disk
+pub mod Inputs
+pub mod Laws
+pub mod Maker
+pub mod Reader
+pub mod Sinks
+pub mod Strikes
+pub mod Told

@@ -1,0 +1,70 @@
+ghost use Rattle.std.specs.Prelude.{◌≡◌, ◌+◌, ◌-◌, ◌≤◌, ◌∷◌, [], length, OnOk, IfOk};
+ghost use Rattle.dev_traits.specs.Image.{overwritten};
+
+use dev_traits::Memory;
+use std::alloc::AllocError;
+use std::marker::Model;
+
+/// An area of a store, with room to grow. Contracts see its bytes and how many more it has room for.
+#[derive(Drop)]
+pub struct Area {
+    bytes: Vec<u8>,
+}
+
+impl Model for Area {
+    ghost use Rattle.std.specs.Prelude.{◌-◌, ◌≤◌, max, vec_len, vec_capacity};
+    ghost use Rattle.dev_memory.specs.Areas.{AreaView};
+
+    ghost Value = { AreaView };
+
+    ghost view = { λ a. record { bytes = a.bytes.items; room = vec_capacity a.bytes - max (vec_len a.bytes) 1 } };
+
+    ghost invariant = { λ a. 1 ≤ vec_capacity a.bytes };
+}
+
+impl Area {
+    pub fn new(bytes: Vec<u8>) -> Result<Area, Memory>
+        ensures { IfOk result (λ area. area.bytes ≡ bytes.items) }
+    {
+        let mut bytes = bytes;
+        bytes.reserve(1)?;
+        Ok(Area { bytes })
+    }
+
+    /// Takes memory for so many bytes more.
+    pub fn reserve(&mut self, more: usize) -> Result<(), Memory>
+        ensures room { OnOk result (more ≤ self.new.room) }
+        ensures same { self.new.bytes ≡ self.old.bytes }
+        ensures kept { self.old.room ≤ self.new.room }
+    {
+        let room = more.checked_add(1).ok_or(AllocError)?;
+        self.bytes.reserve(room)
+    }
+
+    /// Writes over what is there, and past the end. It takes no memory.
+    pub fn write(&mut self, at: usize, piece: &[u8])
+        requires inside { at ≤ length self.old.bytes }
+        requires room { length piece.now ≤ self.old.room }
+        ensures written { self.new.bytes ≡ overwritten self.old.bytes at piece.now }
+        ensures spends { self.old.room ≤ self.new.room + length piece.now }
+    {
+        let over = piece.len().min(self.bytes.len() - at);
+        self.bytes[at..at + over].copy_from_slice(&piece[..over]);
+        self.bytes.extend_from_slice(&piece[over..]).unwrap();
+    }
+
+    /// Makes it the one byte 0. It takes no memory.
+    pub fn blank(&mut self)
+        ensures blank { self.new.bytes ≡ 0 ∷ [] }
+        ensures kept { self.old.room ≤ self.new.room }
+    {
+        self.bytes.clear();
+        self.bytes.push_reserved(0);
+    }
+
+    pub fn as_slice(&self) -> &[u8]
+        ensures { result.now ≡ self.now.bytes }
+    {
+        self.bytes.as_slice()
+    }
+}

@@ -1,0 +1,14 @@
+//! A log in an area of a store: each body stands behind a gate that is opened once the body is on the disk.
+#![tactic(auto)]
+
+mod contents;
+mod fault;
+mod framed;
+mod log;
+mod reading;
+
+pub use contents::bodies;
+pub use fault::LogFault;
+pub use framed::{Framed, frame};
+pub use log::{Log, append};
+pub use reading::{find, reset};

@@ -1,0 +1,59 @@
+ghost use Rattle.std.specs.Prelude.{◌≡◌, ◌+◌, ◌^◌, ◌<◌, ◌≤◌, ◌∷◌, [], ◌++◌, ℕ, List, length, OnOk, IfErr, OnErr};
+ghost use Rattle.dev_traits.specs.Causes.{HasCause};
+ghost use Rattle.dev_traits.specs.Image.{area_of};
+ghost use Rattle.dev_traits.specs.View.{Told, EachImage, Leaves, Spends, ReadsElsewhere};
+ghost use Rattle.gated_log.specs.Log.{EndsAt, IsSettled, Appends};
+
+use crate::{Framed, LogFault};
+use dev_traits::Store;
+
+/// An open gate. Every other byte is a closed one.
+pub(crate) const OPEN: u8 = 0xa5;
+
+/// The log of an area, with the place of its closed gate.
+#[derive(Drop)]
+pub struct Log {
+    pub area: u32,
+    pub end: u64,
+    ghost in_range: { area < 3 },
+    ghost no_longer: { end ≤ 2 ^ 44 },
+}
+
+/// Adds a body. At `Ok` each crash from then on leaves it. At an error the area may have the body or not: find the log again.
+/// The length, the body and a closed gate are written behind the log's closed gate and synced; then the gate is opened and synced.
+pub fn append<S: Store>(store: &mut S, log: &mut Log, piece: &Framed) -> Result<(), LogFault>
+    requires calls { 4 ≤ (S.view store.old).spare_calls }
+    requires bytes { length piece.now + 10 ≤ (S.view store.old).spare_bytes }
+    requires log { Told (S.view store.old) (λ image. (bodies : List (List ℕ)) × EndsAt bodies log.old.end (area_of image log.old.area)) }
+
+    ensures appended { OnOk result (Told (S.view store.old) (λ before. Told (S.view store.new) (λ after.
+        (bodies : List (List ℕ)) → EndsAt bodies log.old.end (area_of before log.old.area)
+        → EndsAt (bodies ++ piece.now ∷ []) log.new.end (area_of after log.new.area)))) }
+
+    // A crash at any moment of the call leaves the bodies from before it, with the new one or without.
+    ensures any_moment { (bodies : List (List ℕ)) → IsSettled log.old.area bodies log.old.end (S.view store.old)
+        → Leaves (Appends log.old.area bodies piece.now) (S.view store.old) (S.view store.new) }
+
+    ensures acknowledged { OnOk result ((bodies : List (List ℕ)) → IsSettled log.old.area bodies log.old.end (S.view store.old)
+        → IsSettled log.new.area (bodies ++ piece.now ∷ []) log.new.end (S.view store.new)) }
+
+    // A crash then leaves what is read.
+    ensures durable { OnOk result (Told (S.view store.new) (λ after. EachImage (S.view store.new) (λ left. area_of left log.new.area ≡ area_of after log.new.area))) }
+
+    ensures elsewhere { ReadsElsewhere log.old.area (S.view store.old) (S.view store.new) }
+    ensures unmoved { OnErr result (log.new.end ≡ log.old.end) }
+    ensures spends { Spends 4 (length piece.now + 10) (S.view store.old) (S.view store.new) }
+    ensures area { log.new.area ≡ log.old.area }
+    ensures only { IfErr result (λ e. e ≡ LogFault.StoreFault) }
+    ensures cause { HasCause (S.view store.old).faults (S.view store.new).faults result }
+{
+    let area = log.area;
+    let gate = log.end;
+    let bytes = piece.bytes();
+    store.write_at(area, gate + 1, bytes)?;
+    store.sync(area)?;
+    store.write_at(area, gate, &[OPEN])?;
+    store.sync(log.area)?;
+    log.end = gate + bytes.len() as u64;
+    Ok(())
+}
