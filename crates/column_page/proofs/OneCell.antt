@@ -1,9 +1,9 @@
 -- No cell's bytes begin another's.
-use Rattle.std.proofs.Common.{◌≡◌, ℕ, ◌+◌, ◌<◌, ◌≤◌, ◌^◌, List, [], ◌∷◌, ◌++◌, length, take, drop, refl, sym, ap, ◌∙◌, inl, inr, arith, subst, Bool as Truth, true, false, IsTrue}
+use Rattle.std.proofs.Common.{◌≡◌, ℕ, ◌+◌, ◌<◌, ◌≤◌, ◌^◌, List, [], ◌∷◌, ◌++◌, length, take, refl, sym, ap, ◌∙◌, inl, inr, arith, Bool as Truth, true, false, IsTrue}
 use Rattle.std.specs.Prelude.{ℤ, pos, negsuc, int_le, ◌&&◌, not, nat_eq, nat_le, ◌⊎◌}
 use Rattle.std.proofs.lemmas.Bool.{and_parts, false≢true, leb-true}
-use Rattle.std.proofs.lemmas.List.{append_cancel_left, append_assoc, length-append, take_at, drop_at, take-append-le, take-append-drop}
-use Rattle.byteorder.specs.Endian.{big_bytes, big_number}
+use Rattle.std.proofs.lemmas.List.{append_cancel_left, append_assoc, take_at}
+use Rattle.byteorder.specs.Endian.{big_number}
 use Rattle.byteorder.specs.Numbers.{big_number-reads_back, length-bytes_high_first}
 use Rattle.fixed_code.specs.NumberCode.{FitsBytes, half, number_code}
 use Rattle.fixed_code.proofs.Codes.{only_code}
@@ -15,7 +15,7 @@ use Rattle.pk_values.specs.declared.cells.Kind.TheVariants.{Boolean, TinyInt, Sm
 use Rattle.pk_values.specs.declared.cells.Value.{Value}
 use Rattle.pk_values.specs.declared.cells.Value.TheVariants.{Null, Bool, Num, Day, Text}
 use Rattle.pk_values.specs.declared.cells.Column.{Column}
-use Rattle.column_page.specs.CellBytes.{cell_bytes, day_bytes, flag_bytes, null_mark, number_bytes, text_bytes, u16_bytes, value_bytes, HasShape, IsDay, IsFlag, IsNumber, IsText, NoneFirst, StandsFirst}
+use Rattle.column_page.specs.CellBytes.{cell_bytes, day_bytes, flag_bytes, null_mark, number_bytes, text_bytes, u16_bytes, value_bytes, HasShape, IsDay, IsFlag, IsNumber, IsText}
 
 pub length-code : (w : ℕ) (z : ℤ) → length (number_code w z) ≡ w
 length-code w z = length-bytes_high_first w _

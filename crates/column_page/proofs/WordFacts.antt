@@ -1,15 +1,14 @@
 -- The different cells, and their places.
-use Rattle.std.proofs.Common.{◌≡◌, ℕ, zero, suc, ◌+◌, ◌<◌, List, [], ◌∷◌, ◌++◌, length, get_or, refl, sym, ap, ◌∙◌, arith, subst, Bool, true, false, cond, inl, inr, IsTrue}
+use Rattle.std.proofs.Common.{◌≡◌, ℕ, zero, suc, ◌+◌, ◌<◌, List, [], ◌∷◌, ◌++◌, length, get_or, refl, sym, ap, ◌∙◌, arith, subst, true, false, cond, inl, inr}
 use Rattle.std.proofs.Common.{◌≤◌}
 use Rattle.std.proofs.Math.Numerals.{add-one}
 use Rattle.std.proofs.lemmas.List.{length_push}
 use Rattle.std.proofs.lemmas.List.Elements.{All-head, All-nil, All-push, All-tail}
-use Rattle.std.specs.Prelude.{All, Option, Some, None, if◌then◌else◌, is_some}
-use Rattle.std.specs.List.{concat, flat_map}
+use Rattle.std.specs.Prelude.{All, Some, is_some}
 use Rattle.std.specs.Str.{bytes_eq}
 use Rattle.std.proofs.lemmas.Bool.{cases_Bool, false≢true, false_from_ne_true}
 use Rattle.std.proofs.lemmas.Slice.Eq.{bytes_eq-Decides}
-use Rattle.column_page.specs.Page.{Cell, distinct_after, is_among, place, places, with_word}
+use Rattle.column_page.specs.Page.{Cell, distinct_after, is_among, place, with_word}
 use Rattle.column_page.specs.Words.{found}
 
 same_cell : (c : Cell) → bytes_eq c c ≡ true

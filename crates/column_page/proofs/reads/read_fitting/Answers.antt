@@ -1,4 +1,4 @@
-use Rattle.std.proofs.Common.{◌≡◌, ◌++◌, drop, sym, ap, ◌∙◌, subst, take-append-drop, take, IsTrue}
+use Rattle.std.proofs.Common.{◌≡◌, ◌++◌, drop, sym, ap, ◌∙◌, subst, take-append-drop, IsTrue}
 use Rattle.std.proofs.lemmas.Bool.{false≢true}
 use Rattle.pk_values.specs.Fits.{fits_kind}
 use Rattle.pk_values.specs.declared.cells.Value.{Value}

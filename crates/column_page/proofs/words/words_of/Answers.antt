@@ -1,4 +1,4 @@
-use Rattle.std.proofs.Common.{◌≡◌, ◌+◌, ◌≤◌, ◌∷◌, ◌++◌, [], List, ℕ, sym, ap, ◌∙◌, subst, take, get_or, arith}
+use Rattle.std.proofs.Common.{◌≡◌, ◌+◌, ◌≤◌, [], List, sym, ap, ◌∙◌, subst, take, get_or, arith}
 use Rattle.std.proofs.lemmas.List.{take_more}
 use Rattle.column_page.specs.Page.{Cell, distinct_after, with_word}
 use Rattle.column_page.specs.Words.{Knows}
