@@ -1,9 +1,9 @@
 -- No cell's bytes begin another's.
-use Rattle.std.proofs.Common.{◌≡◌, ℕ, ◌+◌, ◌<◌, ◌≤◌, ◌^◌, List, [], ◌∷◌, ◌++◌, length, take, drop, refl, sym, ap, ◌∙◌, inl, inr, arith, subst, Bool as Truth, true, false, IsTrue}
-use Rattle.std.specs.Prelude.{ℤ, pos, negsuc, int_le, ◌&&◌, not, nat_eq, nat_le, nat_lt, ◌⊎◌}
+use Rattle.std.proofs.Common.{◌≡◌, ℕ, ◌+◌, ◌<◌, ◌≤◌, ◌^◌, List, [], ◌∷◌, ◌++◌, length, take, refl, sym, ap, ◌∙◌, inl, inr, arith, Bool as Truth, true, false, IsTrue}
+use Rattle.std.specs.Prelude.{ℤ, pos, negsuc, int_le, ◌&&◌, not, nat_eq, nat_le, ◌⊎◌}
 use Rattle.std.proofs.lemmas.Bool.{and_parts, false≢true, leb-true}
-use Rattle.std.proofs.lemmas.List.{append_cancel_left, append_assoc, length-append, take_at, drop_at, take-append-le, take-append-drop}
-use Rattle.byteorder.specs.Endian.{big_bytes, big_number}
+use Rattle.std.proofs.lemmas.List.{append_cancel_left, append_assoc, take_at}
+use Rattle.byteorder.specs.Endian.{big_number}
 use Rattle.byteorder.specs.Numbers.{big_number-reads_back, length-bytes_high_first}
 use Rattle.fixed_code.specs.NumberCode.{FitsBytes, half, number_code}
 use Rattle.fixed_code.proofs.Codes.{only_code}
@@ -15,7 +15,7 @@ use Rattle.pk_values.specs.declared.cells.Kind.TheVariants.{Boolean, TinyInt, Sm
 use Rattle.pk_values.specs.declared.cells.Value.{Value}
 use Rattle.pk_values.specs.declared.cells.Value.TheVariants.{Null, Bool, Num, Day, Text}
 use Rattle.pk_values.specs.declared.cells.Column.{Column}
-use Rattle.column_page.specs.CellBytes.{cell_bytes, day_bytes, flag_bytes, null_mark, number_bytes, text_bytes, u16_bytes, value_bytes, HasShape, IsDay, IsFlag, IsNumber, IsText, NoneFirst, StandsFirst}
+use Rattle.column_page.specs.CellBytes.{cell_bytes, day_bytes, flag_bytes, null_mark, number_bytes, text_bytes, u16_bytes, value_bytes, HasShape, IsDay, IsFlag, IsNumber, IsText}
 
 pub length-code : (w : ℕ) (z : ℤ) → length (number_code w z) ≡ w
 length-code w z = length-bytes_high_first w _
@@ -115,7 +115,7 @@ day_fits (negsuc n) f = absurd (false≢true (and_parts (int_le (pos 0) (negsuc 
 text_fits : (n : ℕ) (t : List ℕ) → IsTrue (is_kind (Varchar n)) → IsTrue (fits_kind (Varchar n) (Text t)) → length t < 2 ^ 16
 text_fits n t i f =
     let short : length t ≤ n = leb-true (length t) n (and_parts (nat_le (length t) n) (not (pointwise nat_eq t null_text)) f).0 in
-    let most : n ≤ 65533 = leb-true n 65533 (and_parts (nat_lt 0 n) (nat_le n 65533) i).1 in
+    let most : n ≤ 65533 = leb-true n 65533 (and_parts (nat_le 1 n) (nat_le n 65533) i).1 in
     omega arith
 
 -- what fits a type has its shape
@@ -211,10 +211,10 @@ cell_one c i v w f g r s h = elim (null_or_value c v f) [
   | inr p ↦ elim (null_or_value c w g) [
     | inl m ↦ absurd (null_apart c v m.taken p s r (ap (λ (x : Value). cell_bytes c x ++ s) (sym m.is) ∙ sym h))
     | inr q ↦
-      let mark = null_mark c.nullable w in
-      let same : null_mark c.nullable v ≡ null_mark c.nullable w = p.marked c.nullable ∙ sym (q.marked c.nullable) in
-      let h' : mark ++ (value_bytes c.kind v ++ r) ≡ mark ++ (value_bytes c.kind w ++ s) =
-          sym (append_assoc mark (value_bytes c.kind v) r) ∙ ap (λ (t : List ℕ). (t ++ value_bytes c.kind v) ++ r) (sym same) ∙ h ∙ append_assoc mark (value_bytes c.kind w) s in
-      value_one c.kind v w (shape_of c.kind v i p.fits_it) (shape_of c.kind w i q.fits_it) r s (append_cancel_left mark _ _ h')
+        let mark = null_mark c.nullable w in
+        let same : null_mark c.nullable v ≡ null_mark c.nullable w = p.marked c.nullable ∙ sym (q.marked c.nullable) in
+        let h' : mark ++ (value_bytes c.kind v ++ r) ≡ mark ++ (value_bytes c.kind w ++ s) =
+        sym (append_assoc mark (value_bytes c.kind v) r) ∙ ap (λ (t : List ℕ). (t ++ value_bytes c.kind v) ++ r) (sym same) ∙ h ∙ append_assoc mark (value_bytes c.kind w) s in
+        value_one c.kind v w (shape_of c.kind v i p.fits_it) (shape_of c.kind w i q.fits_it) r s (append_cancel_left mark _ _ h')
   ]
 ]

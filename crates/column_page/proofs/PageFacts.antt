@@ -5,12 +5,11 @@ use Rattle.std.specs.List.{concat, flat_map}
 use Rattle.std.proofs.lemmas.List.{append_assoc, drop-drop, drop_more, length-map, take_all, take_more}
 use Rattle.std.proofs.Common.{get_or}
 use Rattle.column_page.proofs.WordFacts.{at_place, each_among, place-lt, words_all, words_few}
-use Rattle.pk_values.specs.Schemas.{is_kind}
 use Rattle.pk_values.specs.declared.cells.Value.{Value}
 use Rattle.pk_values.specs.declared.cells.Column.{Column}
 use Rattle.column_page.specs.CellBytes.{cell_bytes, u16_bytes}
-use Rattle.column_page.specs.Page.{AllFit, Cell, dictionary, distinct_after, is_among, place, places, run_bytes, run_length, runs}
-use Rattle.column_page.specs.Reading.{AreCells, CellsThen, HavePlaced, IsCellOf, PlacesOf, RunsOf, expanded}
+use Rattle.column_page.specs.Page.{Cell, dictionary, distinct_after, is_among, place, places, run_bytes, run_length, runs}
+use Rattle.column_page.specs.Reading.{AreCells, CellsThen, HavePlaced, IsCellOf, PlacesOf, RunsOf}
 use Rattle.column_page.proofs.ReadFacts.{cells_of, u16_step}
 use Rattle.column_page.proofs.RunFacts.{expanded-runs, runs_all, runs_few}
 

@@ -1,20 +1,17 @@
 -- What was read is the only thing that can have been written.
-use Rattle.std.proofs.Common.{◌≡◌, ℕ, zero, suc, ◌+◌, ◌-◌, ◌<◌, ◌≤◌, ◌^◌, List, [], ◌∷◌, ◌++◌, length, get_or, take, drop, map, replicate, refl, sym, ap, ◌∙◌, arith, subst, true, false, inl, inr, IsTrue, min}
+use Rattle.std.proofs.Common.{◌≡◌, ℕ, zero, suc, ◌+◌, ◌<◌, ◌≤◌, ◌^◌, List, [], ◌∷◌, ◌++◌, length, get_or, take, drop, map, replicate, refl, sym, ap, ◌∙◌, arith, IsTrue}
 use Rattle.std.specs.Prelude.{All}
 use Rattle.std.specs.List.{concat, flat_map}
-use Rattle.std.specs.Str.{bytes_eq}
-use Rattle.std.proofs.lemmas.Bool.{cases_Bool, false≢true}
-use Rattle.std.proofs.lemmas.List.{append-nil, append_assoc, append_cancel_left, drop-drop, drop_all, drop_more, get_or-map, length-append, length-drop, length-map, length-replicate, map-append, map_push, take-append-drop, take_all, take_more}
+use Rattle.std.proofs.lemmas.List.{append-nil, append_assoc, append_cancel_left, drop-drop, drop_all, drop_more, length-append, length-map, length-replicate, map-append, map_push, take-append-drop, take_all, take_more}
 use Rattle.std.proofs.lemmas.List.Concat.{flat_map-append}
-use Rattle.std.proofs.lemmas.List.Elements.{All-cons, All-head, All-map, All-nil, All-tail}
-use Rattle.std.proofs.lemmas.Slice.Eq.{bytes_eq-Decides}
+use Rattle.std.proofs.lemmas.List.Elements.{All-head, All-map, All-tail}
 use Rattle.pk_values.specs.Fits.{fits}
 use Rattle.pk_values.specs.Schemas.{is_kind}
 use Rattle.pk_values.specs.declared.cells.Value.{Value}
 use Rattle.pk_values.specs.declared.cells.Column.{Column}
 use Rattle.column_page.specs.CellBytes.{cell_bytes, u16_bytes, NoneFirst, StandsFirst}
-use Rattle.column_page.specs.Page.{AllFit, Cell, distinct_after, is_among, place, places, put_run, run_bytes, runs, with_word}
-use Rattle.column_page.specs.Reading.{AreCells, CellsThen, HaveRead, HaveRunOut, IsCellOf, PlacesOf, RunsOf, expanded}
+use Rattle.column_page.specs.Page.{AllFit, Cell, run_bytes}
+use Rattle.column_page.specs.Reading.{AreCells, CellsThen, HaveRead, HaveRunOut, IsCellOf, RunsOf, expanded}
 use Rattle.column_page.proofs.OneCell.{cell_one, length-u16, u16_one}
 
 -- ---- one cell

@@ -1,6 +1,5 @@
 -- Runs of equal cells, one after the other.
 use Rattle.std.proofs.Common.{◌≡◌, ℕ, zero, suc, ◌+◌, ◌-◌, ◌<◌, ◌≤◌, List, [], ◌∷◌, ◌++◌, length, replicate, get_or, drop, refl, sym, ap, ◌∙◌, arith, subst, true, false}
-use Rattle.std.specs.List.{flat_map}
 use Rattle.std.specs.Str.{bytes_eq}
 use Rattle.std.proofs.lemmas.Bool.{false≢true, false_from_ne_true}
 use Rattle.std.specs.Prelude.{if◌then◌else◌}
@@ -11,7 +10,7 @@ use Rattle.std.proofs.Common.{inl, inr}
 use Rattle.std.proofs.lemmas.Bool.{cases_Bool}
 use Rattle.std.proofs.lemmas.List.Elements.{All-cons, All-head, All-nil, All-tail}
 use Rattle.column_page.specs.Reading.{expanded}
-use Rattle.column_page.specs.Page.{Cell, FirstDiffers, put_run, run_bytes, runs}
+use Rattle.column_page.specs.Page.{Cell, FirstDiffers, put_run, runs}
 
 differs_back : (c d : Cell) → bytes_eq d c ≡ false → bytes_eq c d ≡ false
 differs_back c d h = false_from_ne_true (bytes_eq c d) (λ t. false≢true (sym h ∙ (bytes_eq-Decides d c).1 (sym ((bytes_eq-Decides c d).0 t))))
@@ -77,9 +76,9 @@ expanded-put_run : (c : Cell) (rs : List (ℕ × Cell)) → expanded (put_run c 
 expanded-put_run c [] = refl
 expanded-put_run c (r ∷ rs) = elim (cases_Bool (bytes_eq c r.1)) [
   | inl e ↦
-    let same : c ≡ r.1 = (bytes_eq-Decides c r.1).0 e in
-    let k : r.0 + 1 ≡ suc r.0 = omega arith in
-    rw (e, k) (ap (λ (x : Cell). c ∷ (replicate r.0 x ++ expanded rs)) same)
+      let same : c ≡ r.1 = (bytes_eq-Decides c r.1).0 e in
+      let k : r.0 + 1 ≡ suc r.0 = omega arith in
+      rw (e, k) (ap (λ (x : Cell). c ∷ (replicate r.0 x ++ expanded rs)) same)
   | inr n ↦ rw n refl
 ]
 

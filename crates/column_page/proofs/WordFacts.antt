@@ -1,15 +1,14 @@
 -- The different cells, and their places.
-use Rattle.std.proofs.Common.{◌≡◌, ℕ, zero, suc, ◌+◌, ◌<◌, List, [], ◌∷◌, ◌++◌, length, get_or, refl, sym, ap, ◌∙◌, arith, subst, Bool, true, false, cond, inl, inr, IsTrue}
+use Rattle.std.proofs.Common.{◌≡◌, ℕ, zero, suc, ◌+◌, ◌<◌, List, [], ◌∷◌, ◌++◌, length, get_or, refl, sym, ap, ◌∙◌, arith, subst, true, false, cond, inl, inr}
 use Rattle.std.proofs.Common.{◌≤◌}
 use Rattle.std.proofs.Math.Numerals.{add-one}
 use Rattle.std.proofs.lemmas.List.{length_push}
 use Rattle.std.proofs.lemmas.List.Elements.{All-head, All-nil, All-push, All-tail}
-use Rattle.std.specs.Prelude.{All, Option, Some, None, if◌then◌else◌, is_some}
-use Rattle.std.specs.List.{concat, flat_map}
+use Rattle.std.specs.Prelude.{All, Some, is_some}
 use Rattle.std.specs.Str.{bytes_eq}
 use Rattle.std.proofs.lemmas.Bool.{cases_Bool, false≢true, false_from_ne_true}
 use Rattle.std.proofs.lemmas.Slice.Eq.{bytes_eq-Decides}
-use Rattle.column_page.specs.Page.{Cell, distinct_after, is_among, place, places, with_word}
+use Rattle.column_page.specs.Page.{Cell, distinct_after, is_among, place, with_word}
 use Rattle.column_page.specs.Words.{found}
 
 same_cell : (c : Cell) → bytes_eq c c ≡ true
@@ -54,14 +53,14 @@ place_last c (w ∷ ws) h = elim (cases_Bool (bytes_eq c w)) [
 pub found_more : (c q : Cell) (ws : List Cell) → is_among c ws ≡ false → cond (bytes_eq c q) (Some (length ws)) (found q ws) ≡ found q (ws ++ c ∷ [])
 found_more c q ws h = elim (cases_Bool (bytes_eq c q)) [
   | inl e ↦ let same : c ≡ q = (bytes_eq-Decides c q).0 e in
-    let P : Cell → Type 0 = λ x. cond (bytes_eq c x) (Some (length ws)) (found x ws) ≡ found x (ws ++ c ∷ []) in
-    subst P same (rw (same_cell c, among_last c ws, place_last c ws h) refl)
+      let P : Cell → Type 0 = λ x. cond (bytes_eq c x) (Some (length ws)) (found x ws) ≡ found x (ws ++ c ∷ []) in
+      subst P same (rw (same_cell c, among_last c ws, place_last c ws h) refl)
   | inr n ↦
-    let back : bytes_eq q c ≡ false = false_from_ne_true (bytes_eq q c) (λ t. false≢true (sym n ∙ (bytes_eq-Decides c q).1 (sym ((bytes_eq-Decides q c).0 t)))) in
-    elim (cases_Bool (is_among q ws)) [
-      | inl a ↦ rw (n, among_other q c ws back, a, place_more q c ws a) refl
-      | inr a ↦ rw (n, among_other q c ws back, a) refl
-    ]
+      let back : bytes_eq q c ≡ false = false_from_ne_true (bytes_eq q c) (λ t. false≢true (sym n ∙ (bytes_eq-Decides c q).1 (sym ((bytes_eq-Decides q c).0 t)))) in
+      elim (cases_Bool (is_among q ws)) [
+        | inl a ↦ rw (n, among_other q c ws back, a, place_more q c ws a) refl
+        | inr a ↦ rw (n, among_other q c ws back, a) refl
+      ]
 ]
 
 pub distinct_push : (seen cells : List Cell) (c : Cell) → distinct_after seen (cells ++ c ∷ []) ≡ with_word c (distinct_after seen cells)

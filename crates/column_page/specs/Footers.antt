@@ -1,5 +1,5 @@
 -- The footer of a segment: what it tells of each block, and its bytes.
-use Rattle.std.specs.Prelude.{◌≡◌, ℕ, ◌+◌, ◌-◌, ◌<◌, ◌≤◌, ◌^◌, ◌≤ℤ◌, min, List, [], ◌∷◌, ◌++◌, length, drop, take, All, Bool as Truth, true, false, ◌&&◌, ◌==◌, nat_le, int_le, IsTrue, Option, Some, None, ⊤, slice_get, option_and_then}
+use Rattle.std.specs.Prelude.{◌≡◌, ℕ, ◌+◌, ◌-◌, ◌<◌, ◌^◌, min, List, [], ◌∷◌, ◌++◌, length, drop, take, All, Bool as Truth, true, false, ◌&&◌, ◌==◌, nat_le, int_le, Option, Some, None, ⊤, slice_get, option_and_then}
 use Rattle.std.specs.List.{flat_map, list_all}
 use Rattle.byteorder.specs.Endian.{big_bytes}
 use Rattle.sha2.specs.Sha256.{sha256}

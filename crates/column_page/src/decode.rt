@@ -47,7 +47,12 @@ fn copy_value(alloc: Global, value: &Value) -> Result<Value, PageFault>
     }
 }
 
-fn push_copies(alloc: Global, values: &mut Vec<Value>, value: &Value, count: u16) -> Result<(), PageFault>
+fn push_copies(
+    alloc: Global,
+    values: &mut Vec<Value>,
+    value: &Value,
+    count: u16,
+) -> Result<(), PageFault>
     ensures pushed { OnOk result (values.new.items ≡ values.old.items ++ replicate count value.now) }
     ensures memory { IfErr result (λ e. e ≡ PageFault.Memory) }
 {
@@ -59,7 +64,12 @@ fn push_copies(alloc: Global, values: &mut Vec<Value>, value: &Value, count: u16
 }
 
 // The first so many cells of the bytes.
-fn read_cells(alloc: Global, column: &Column, count: usize, bytes: &[u8]) -> Result<ReadCells, PageFault>
+fn read_cells(
+    alloc: Global,
+    column: &Column,
+    count: usize,
+    bytes: &[u8],
+) -> Result<ReadCells, PageFault>
     requires { IsTrue (is_kind column.now.kind) }
     ensures fits { IfOk result (λ read. AllFit column.now read.values.items) }
     ensures number { IfOk result (λ read. length read.values.items ≡ count) }
@@ -79,7 +89,12 @@ fn read_cells(alloc: Global, column: &Column, count: usize, bytes: &[u8]) -> Res
 }
 
 /// The cells that stand one after the other.
-pub fn read_plain(alloc: Global, column: &Column, count: u32, bytes: &[u8]) -> Result<Vec<Value>, PageFault>
+pub fn read_plain(
+    alloc: Global,
+    column: &Column,
+    count: u32,
+    bytes: &[u8],
+) -> Result<Vec<Value>, PageFault>
     requires { IsTrue (is_kind column.now.kind) }
     ensures fits { IfOk result (λ found. AllFit column.now found.items) }
     ensures only { IfOk result (λ found. OnlyCells column.now count plain (0 ∷ bytes.now) found.items) }
@@ -110,7 +125,13 @@ fn read_run(alloc: Global, column: &Column, bytes: &[u8]) -> Result<ReadRun, Pag
 }
 
 // The cells of so many runs, where these are not more cells than there may be.
-fn expand_runs(alloc: Global, column: &Column, total: u16, count: u32, bytes: &[u8]) -> Result<Vec<Value>, PageFault>
+fn expand_runs(
+    alloc: Global,
+    column: &Column,
+    total: u16,
+    count: u32,
+    bytes: &[u8],
+) -> Result<Vec<Value>, PageFault>
     requires { IsTrue (is_kind column.now.kind) }
     ensures fits { IfOk result (λ found. AllFit column.now found.items) }
     ensures only { IfOk result (λ found. (rs : List (ℕ × Cell)) → RunsOf column.now total count bytes.now rs → map (cell_bytes column.now) found.items ≡ expanded rs) }
@@ -130,7 +151,12 @@ fn expand_runs(alloc: Global, column: &Column, total: u16, count: u32, bytes: &[
 }
 
 /// The cells of the run-length form.
-pub fn read_runs(alloc: Global, column: &Column, count: u32, bytes: &[u8]) -> Result<Vec<Value>, PageFault>
+pub fn read_runs(
+    alloc: Global,
+    column: &Column,
+    count: u32,
+    bytes: &[u8],
+) -> Result<Vec<Value>, PageFault>
     requires { IsTrue (is_kind column.now.kind) }
     ensures fits { IfOk result (λ found. AllFit column.now found.items) }
     ensures only { IfOk result (λ found. OnlyCells column.now count run_length (1 ∷ bytes.now) found.items) }
@@ -144,7 +170,12 @@ pub fn read_runs(alloc: Global, column: &Column, count: u32, bytes: &[u8]) -> Re
 }
 
 // The words at so many places.
-fn read_places(alloc: Global, words: &[Value], count: u32, bytes: &[u8]) -> Result<Vec<Value>, PageFault>
+fn read_places(
+    alloc: Global,
+    words: &[Value],
+    count: u32,
+    bytes: &[u8],
+) -> Result<Vec<Value>, PageFault>
     requires { length words.now < 2 ^ 16 }
     ensures pass { IfOk result (λ found. (p : Value → Bool) → AllPass p words.now → AllPass p found.items) }
     ensures only { IfOk result (λ found. (code : Value → List ℕ) (cells : List Cell) → PlacesOf (map code words.now) count bytes.now cells → map code found.items ≡ cells) }
@@ -167,7 +198,12 @@ fn read_places(alloc: Global, words: &[Value], count: u32, bytes: &[u8]) -> Resu
 }
 
 /// The cells of the dictionary form.
-pub fn read_dictionary(alloc: Global, column: &Column, count: u32, bytes: &[u8]) -> Result<Vec<Value>, PageFault>
+pub fn read_dictionary(
+    alloc: Global,
+    column: &Column,
+    count: u32,
+    bytes: &[u8],
+) -> Result<Vec<Value>, PageFault>
     requires { IsTrue (is_kind column.now.kind) }
     ensures fits { IfOk result (λ found. AllFit column.now found.items) }
     ensures only { IfOk result (λ found. OnlyCells column.now count dictionary (2 ∷ bytes.now) found.items) }

@@ -13,7 +13,7 @@ mod words;
 
 pub use faults::PageFault;
 pub use footers::{BlockMark, ColumnMark, Footer, Span};
-pub use pages::{decode_page, encode_page};
+pub use pages::{all_fit, decode_page, encode_page};
 
 #[cfg(test)]
 mod tests;

@@ -13,6 +13,13 @@ use crate::words::dictionary_page;
 use pk_values::{Column, Octets, Value};
 use std::alloc::{AllocError, Global};
 
+/// Whether each cell fits the column.
+pub fn all_fit(column: &Column, cells: &[Value]) -> bool
+    ensures { IsTrue result ↔ AllFit column.now cells.now }
+{
+    cells.iter().all(|cell| column.fits(cell))
+}
+
 // The shorter of two texts, the first where they are equally long.
 fn shorter_of(first: Vec<u8>, second: Vec<u8>) -> Vec<u8>
     ensures { result.items ≡ shorter first.items second.items }
@@ -44,7 +51,12 @@ pub fn encode_page(alloc: Global, column: &Column, cells: &[Value]) -> Result<Oc
 }
 
 // The cells that the bytes are the page of, if any cells have this page.
-fn candidate(alloc: Global, column: &Column, count: u32, bytes: &[u8]) -> Result<Vec<Value>, PageFault>
+fn candidate(
+    alloc: Global,
+    column: &Column,
+    count: u32,
+    bytes: &[u8],
+) -> Result<Vec<Value>, PageFault>
     requires { IsTrue (is_kind column.now.kind) }
     ensures fits { IfOk result (λ found. AllFit column.now found.items) }
     ensures only { IfOk result (λ found. OnlyCells column.now count page bytes.now found.items) }
@@ -68,7 +80,12 @@ fn candidate(alloc: Global, column: &Column, count: u32, bytes: &[u8]) -> Result
 }
 
 // Whether cells have this page.
-fn has_page(alloc: Global, column: &Column, cells: &[Value], bytes: &[u8]) -> Result<bool, PageFault>
+fn has_page(
+    alloc: Global,
+    column: &Column,
+    cells: &[Value],
+    bytes: &[u8],
+) -> Result<bool, PageFault>
     requires kind { IsTrue (is_kind column.now.kind) }
     requires some { 1 ≤ length cells.now }
     requires few { length cells.now ≤ 1024 }
@@ -86,7 +103,12 @@ fn has_page(alloc: Global, column: &Column, cells: &[Value], bytes: &[u8]) -> Re
 ///
 /// # Errors
 /// `NotAPage` exactly where no `count` fitting cells, 1 to 1,024 of them, have this page; `Memory`.
-pub fn decode_page(alloc: Global, column: &Column, count: u32, bytes: &[u8]) -> Result<Vec<Value>, PageFault>
+pub fn decode_page(
+    alloc: Global,
+    column: &Column,
+    count: u32,
+    bytes: &[u8],
+) -> Result<Vec<Value>, PageFault>
     requires { IsTrue (is_kind column.now.kind) }
     ensures cells { IfOk result (λ found. AreCells column.now count found.items) }
     ensures page { IfOk result (λ found. page_of column.now found.items ≡ bytes.now) }

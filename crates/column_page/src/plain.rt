@@ -19,7 +19,11 @@ fn cell_text(alloc: Global, column: &Column, value: &Value) -> Result<Octets, Al
 }
 
 /// The bytes of each cell.
-pub fn cell_texts(alloc: Global, column: &Column, cells: &[Value]) -> Result<Vec<Octets>, AllocError>
+pub fn cell_texts(
+    alloc: Global,
+    column: &Column,
+    cells: &[Value],
+) -> Result<Vec<Octets>, AllocError>
     requires kind { IsTrue (is_kind column.now.kind) }
     requires fits { AllFit column.now cells.now }
     ensures { IfOk result (λ texts. texts.items ≡ map (cell_bytes column.now) cells.now) }

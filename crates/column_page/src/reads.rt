@@ -7,7 +7,7 @@ ghost use Rattle.column_page.specs.CellBytes.{cell_bytes, day_bytes, flag_bytes,
 use crate::faults::PageFault;
 use byteorder::{BigEndian, ByteOrder};
 use fixed_code::get;
-use pk_values::{Column, Kind, Octets, Value};
+use pk_values::{Column, Kind, Octets, Value, by_kind};
 use std::alloc::Global;
 
 /// A value that was read, and how many bytes it took.
@@ -100,16 +100,7 @@ fn read_value(alloc: Global, kind: Kind, bytes: &[u8]) -> Result<ReadValue, Page
     ensures first { IfOk result (λ r. StandsFirst (value_bytes kind) r.value r.len bytes.now) }
     ensures none { IfErr result (λ e. e ≡ PageFault.NotAPage → NoneFirst (HasShape kind) (value_bytes kind) bytes.now) }
 {
-    match kind {
-        Kind::Boolean => read_flag(bytes),
-        Kind::TinyInt => read_number::<1>(bytes),
-        Kind::SmallInt => read_number::<2>(bytes),
-        Kind::Int => read_number::<4>(bytes),
-        Kind::BigInt => read_number::<8>(bytes),
-        Kind::LargeInt => read_number::<16>(bytes),
-        Kind::Date => read_day(bytes),
-        Kind::Varchar(_) => read_text(alloc, bytes),
-    }
+    by_kind!(kind; read_flag(bytes); read_number(bytes); read_day(bytes); _ => read_text(alloc, bytes))
 }
 
 // The value of a type at the front of the bytes.

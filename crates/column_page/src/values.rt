@@ -5,7 +5,7 @@ ghost use Rattle.column_page.specs.CellBytes.{cell_bytes, day_bytes, flag_bytes,
 
 use byteorder::{BigEndian, ByteOrder};
 use fixed_code::put;
-use pk_values::{Column, Kind, Value};
+use pk_values::{Column, Kind, Value, by_kind};
 use std::alloc::AllocError;
 
 fn put_flag(out: &mut Vec<u8>, value: &Value) -> Result<(), AllocError>
@@ -68,16 +68,7 @@ fn put_value(out: &mut Vec<u8>, kind: Kind, value: &Value) -> Result<(), AllocEr
     requires { HasShape kind value.now }
     ensures { OnOk result (out.new.items ≡ out.old.items ++ value_bytes kind value.now) }
 {
-    match kind {
-        Kind::Boolean => put_flag(out, value),
-        Kind::TinyInt => put_number::<1>(out, value),
-        Kind::SmallInt => put_number::<2>(out, value),
-        Kind::Int => put_number::<4>(out, value),
-        Kind::BigInt => put_number::<8>(out, value),
-        Kind::LargeInt => put_number::<16>(out, value),
-        Kind::Date => put_day(out, value),
-        Kind::Varchar(_) => put_text(out, value),
-    }
+    by_kind!(kind; put_flag(out, value); put_number(out, value); put_day(out, value); _ => put_text(out, value))
 }
 
 /// Appends the bytes of a cell.

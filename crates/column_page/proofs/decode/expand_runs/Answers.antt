@@ -1,12 +1,12 @@
-use Rattle.std.proofs.Common.{◌≡◌, ◌+◌, ◌-◌, ◌≤◌, ◌<◌, ◌∷◌, ◌++◌, ℕ, List, sym, subst, ap, ◌∙◌, arith, length, drop, take, [], IsTrue, replicate, get_or}
+use Rattle.std.proofs.Common.{◌≡◌, ◌+◌, ◌-◌, ◌≤◌, ℕ, List, sym, subst, ap, ◌∙◌, arith, length, drop, [], IsTrue, replicate, get_or}
 use Rattle.std.proofs.lemmas.List.{length-append, length-drop, length-replicate}
 use Rattle.std.proofs.lemmas.List.Elements.{All-append, All-replicate}
 use Rattle.std.proofs.lemmas.Result.{err_from_is_err_and}
 use Rattle.std.proofs.lemmas.Slice.{between_to_end}
 use Rattle.pk_values.specs.Fits.{fits}
 use Rattle.pk_values.specs.declared.cells.Value.{Value}
-use Rattle.column_page.specs.Page.{AllFit, Cell}
-use Rattle.column_page.specs.Reading.{HaveRunOut, RunsOf}
+use Rattle.column_page.specs.Page.{AllFit}
+use Rattle.column_page.specs.Reading.{HaveRunOut}
 use Rattle.column_page.proofs.ReadFacts.{all_run_out, next_run, no_run_out, run_more}
 use Rattle.column_page.proofs.decode.expand_runs.Goals as goal
 

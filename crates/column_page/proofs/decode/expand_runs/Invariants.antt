@@ -1,4 +1,4 @@
-use Rattle.std.proofs.Common.{◌≡◌, ◌≤◌, List, ℕ, length}
+use Rattle.std.proofs.Common.{◌≤◌, List, ℕ, length}
 use Rattle.column_page.specs.Page.{AllFit, Cell}
 use Rattle.column_page.specs.Reading.{HaveRunOut, RunsOf}
 use Rattle.column_page.proofs.decode.expand_runs.Given as goal

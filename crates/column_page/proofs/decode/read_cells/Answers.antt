@@ -1,12 +1,12 @@
-use Rattle.std.proofs.Common.{◌≡◌, ◌+◌, ◌-◌, ◌≤◌, ◌<◌, ◌∷◌, ◌++◌, ℕ, List, sym, subst, ap, ◌∙◌, arith, length, drop, take, [], IsTrue}
+use Rattle.std.proofs.Common.{◌≡◌, ◌+◌, ◌-◌, ◌≤◌, ℕ, List, sym, subst, ap, ◌∙◌, arith, length, drop, IsTrue}
 use Rattle.std.proofs.lemmas.List.{length-drop, length_push}
 use Rattle.pk_values.specs.Fits.{fits}
-use Rattle.std.proofs.lemmas.List.Elements.{All-nil, All-push}
+use Rattle.std.proofs.lemmas.List.Elements.{All-push}
 use Rattle.std.proofs.lemmas.Result.{err_from_is_err_and}
 use Rattle.std.proofs.lemmas.Slice.{between_to_end}
 use Rattle.pk_values.specs.declared.cells.Value.{Value}
 use Rattle.column_page.specs.Page.{AllFit}
-use Rattle.column_page.specs.Reading.{CellsThen, HaveRead}
+use Rattle.column_page.specs.Reading.{HaveRead}
 use Rattle.column_page.proofs.ReadFacts.{all_read, none_more, none_read, one_more}
 use Rattle.column_page.proofs.decode.read_cells.Goals as goal
 

@@ -1,12 +1,12 @@
-use Rattle.std.proofs.Common.{◌≡◌, ◌∷◌, ◌++◌, [], ◌≤◌, ℕ, List, sym, subst, ap, ◌∙◌, arith, drop, length, map}
+use Rattle.std.proofs.Common.{[], ℕ, List, sym, subst, ◌∙◌, arith, length, map}
 use Rattle.std.proofs.lemmas.Result.{err_from_is_err_and}
 use Rattle.std.proofs.lemmas.Slice.{between_to_end}
 use Rattle.std.specs.List.{AllPass, between}
 use Rattle.pk_values.specs.Fits.{fits}
 use Rattle.pk_values.specs.declared.cells.Value.{Value}
 use Rattle.column_page.specs.CellBytes.{cell_bytes}
-use Rattle.column_page.specs.Page.{Cell, distinct_after, places}
-use Rattle.column_page.specs.Reading.{CellsThen, PlacesOf}
+use Rattle.column_page.specs.Page.{distinct_after, places}
+use Rattle.column_page.specs.Reading.{CellsThen}
 use Rattle.column_page.proofs.PageFacts.{placed_here, words_read}
 use Rattle.column_page.proofs.ReadFacts.{same_cells}
 use Rattle.column_page.proofs.decode.read_dictionary.Goals as goal

@@ -1,4 +1,4 @@
-use Rattle.std.proofs.Common.{◌≡◌, ◌+◌, ◌-◌, ◌≤◌, ◌<◌, ◌^◌, ◌∷◌, ◌++◌, ℕ, List, sym, subst, ap, ◌∙◌, arith, length, drop, take, [], map, get_or, Bool, true, refl}
+use Rattle.std.proofs.Common.{◌≡◌, ◌+◌, ◌-◌, ◌≤◌, ◌<◌, ◌^◌, ◌++◌, ℕ, List, sym, subst, ap, ◌∙◌, arith, length, drop, take, [], map, get_or, true, refl}
 use Rattle.std.specs.List.{AllPass}
 use Rattle.std.proofs.lemmas.List.{get_or-map, length-drop, length-map, map_push}
 use Rattle.std.proofs.lemmas.List.Elements.{All-push}
@@ -6,7 +6,7 @@ use Rattle.std.proofs.lemmas.Slice.{between_to_end}
 use Rattle.pk_values.specs.declared.cells.Value.{Value}
 use Rattle.column_page.specs.CellBytes.{u16_bytes}
 use Rattle.column_page.specs.Page.{Cell, place, places}
-use Rattle.column_page.specs.Reading.{HavePlaced, PlacesOf}
+use Rattle.column_page.specs.Reading.{HavePlaced}
 use Rattle.column_page.proofs.PageFacts.{all_placed, next_place, place_more}
 use Rattle.column_page.proofs.ReadFacts.{u16_long, u16_step}
 use Rattle.column_page.proofs.decode.read_places.Goals as goal

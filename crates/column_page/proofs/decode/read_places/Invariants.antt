@@ -1,4 +1,4 @@
-use Rattle.std.proofs.Common.{◌≡◌, ◌≤◌, Bool, List, ℕ, length, map}
+use Rattle.std.proofs.Common.{◌≤◌, Bool, List, ℕ, length, map}
 use Rattle.std.specs.List.{AllPass}
 use Rattle.pk_values.specs.declared.cells.Value.{Value}
 use Rattle.column_page.specs.Page.{Cell}

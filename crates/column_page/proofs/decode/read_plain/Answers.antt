@@ -1,4 +1,4 @@
-use Rattle.std.proofs.Common.{◌≡◌, ◌∷◌, [], ℕ, List, ap, ◌∙◌, drop, map}
+use Rattle.std.proofs.Common.{[], ap, drop, map}
 use Rattle.std.proofs.lemmas.Result.{err_from_is_err_and}
 use Rattle.column_page.specs.CellBytes.{cell_bytes}
 use Rattle.column_page.proofs.ReadFacts.{cells_then, same_cells}

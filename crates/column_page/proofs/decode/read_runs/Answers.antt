@@ -1,8 +1,8 @@
-use Rattle.std.proofs.Common.{◌≡◌, ◌∷◌, ◌<◌, ◌^◌, ℕ, List, ap, ◌∙◌, arith, drop, length, map, subst, sym}
+use Rattle.std.proofs.Common.{ℕ, List, ◌∙◌, arith, length, map, subst, sym}
 use Rattle.std.proofs.lemmas.Result.{err_from_is_err_and}
 use Rattle.std.proofs.lemmas.Slice.{between_to_end}
 use Rattle.column_page.specs.CellBytes.{cell_bytes}
-use Rattle.column_page.specs.Page.{Cell, runs}
+use Rattle.column_page.specs.Page.{runs}
 use Rattle.column_page.specs.Reading.{RunsOf}
 use Rattle.column_page.proofs.PageFacts.{runs_read}
 use Rattle.column_page.proofs.ReadFacts.{same_cells}

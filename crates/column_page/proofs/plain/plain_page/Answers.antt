@@ -1,4 +1,4 @@
-use Rattle.std.proofs.Common.{◌≡◌, ◌∷◌, ◌++◌, sym, ap, ◌∙◌, take, get_or, List, ℕ}
+use Rattle.std.proofs.Common.{◌∷◌, ◌++◌, sym, ap, ◌∙◌, take, get_or, List, ℕ}
 use Rattle.std.specs.List.{concat}
 use Rattle.std.proofs.lemmas.List.{take_more}
 use Rattle.column_page.proofs.Joined.{concat_push}

@@ -1,6 +1,6 @@
 use Rattle.std.proofs.Common.{arith, length-append, ap}
 use Rattle.column_page.proofs.OneCell.{length-number}
-use Rattle.std.proofs.Common.{◌+◌, ◌≡◌, length, ◌++◌}
+use Rattle.std.proofs.Common.{◌≡◌, length, ◌++◌}
 use Rattle.column_page.specs.CellBytes.{number_bytes}
 use Rattle.column_page.proofs.reads.read_number.Goals as goal
 

@@ -1,4 +1,4 @@
-use Rattle.std.proofs.Common.{◌≡◌, ◌+◌, ◌∷◌, ◌++◌, [], List, ℕ, sym, ap, ◌∙◌, subst, take, get_or, length, true}
+use Rattle.std.proofs.Common.{◌≡◌, ◌∷◌, ◌++◌, [], List, ℕ, sym, ap, ◌∙◌, take, get_or, length, true}
 use Rattle.std.specs.List.{concat}
 use Rattle.std.proofs.lemmas.List.{flat_map_more, take_more}
 use Rattle.column_page.specs.CellBytes.{u16_bytes}
