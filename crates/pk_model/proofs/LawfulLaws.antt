@@ -1,5 +1,5 @@
 -- A lawful load leaves each row under its key.
-use Rattle.std.proofs.Common.{◌≡◌, refl, ap, sym, subst, ◌∙◌, ℕ, ◌+◌, ◌≤◌, ◌<◌, suc, zero, arith, List, [], ◌∷◌, ◌++◌, length, take, drop, map, slice_set, Option, Some, None, cond, unwrap_or, Bool as Truth, true, false, ◌&&◌, nat_le, nat_lt, IsTrue}
+use Rattle.std.proofs.Common.{◌≡◌, refl, ap, sym, ◌∙◌, ℕ, ◌+◌, ◌≤◌, suc, zero, arith, List, [], ◌∷◌, ◌++◌, length, take, drop, map, slice_set, Option, Some, None, cond, Bool as Truth, true, false, ◌&&◌, nat_le, nat_lt}
 use Rattle.std.specs.List.{list_all}
 use Rattle.std.specs.Ordering.{eq_by_cmp, is_eq}
 use Rattle.std.specs.FinMap.{get}
@@ -11,9 +11,8 @@ use Rattle.pk_values.specs.declared.cells.Value.{Value}
 use Rattle.pk_values.specs.declared.cells.Column.{Column}
 use Rattle.pk_model.specs.declared.calls.Op.{Op}
 use Rattle.pk_model.specs.declared.calls.Op.TheVariants.{Upsert, Delete}
-use Rattle.pk_model.specs.declared.calls.Load.{Load}
 use Rattle.pk_model.specs.Tables.{Rows, act, after_lines, key_named, with_cells, new_row, default_cell}
-use Rattle.pk_model.specs.Lawful.{rise_within, fits_line, fits_given, IsLawful}
+use Rattle.pk_model.specs.Lawful.{rise_within, fits_line, fits_given}
 use Rattle.pk_model.specs.Laws.{row_after, KeysStandFirst, LawfulKeepsKeys, DeletedThenNew}
 use Rattle.pk_model.proofs.LoadLaws.{get-act}
 use Rattle.pk_model.proofs.RunLaws.{equal}

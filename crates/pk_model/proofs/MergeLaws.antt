@@ -1,12 +1,11 @@
 -- A merge: what one line does at the place that the merge has come to, and what a sort of the lines keeps.
-use Rattle.std.proofs.Common.{◌≡◌, refl, ap, sym, subst, ◌∙◌, ℕ, ◌+◌, ◌≤◌, ◌<◌, suc, zero, arith, List, [], ◌∷◌, ◌++◌, length, map, append_assoc, Option, Some, None, IfSome, IfNone, cond, not, unwrap_or, Bool as Truth, true, false, ◌&&◌, T, get_or, add-one}
+use Rattle.std.proofs.Common.{◌≡◌, refl, ap, sym, subst, ◌∙◌, ℕ, ◌+◌, ◌≤◌, ◌<◌, suc, arith, List, [], ◌∷◌, ◌++◌, length, append_assoc, Option, Some, None, IfSome, IfNone, cond, not, unwrap_or, Bool as Truth, true, false, ◌&&◌, T, get_or, add-one}
 use Rattle.std.specs.List.{filter}
-use Rattle.std.specs.List.Sorted.{IsSortedBy, IsStableBy, ties}
+use Rattle.std.specs.List.Sorted.{IsStableBy, ties}
 use Rattle.std.specs.Ordering.{eq_by_cmp, is_lt, is_le, is_eq, ordering_reverse}
 use Rattle.std.specs.declared.cmp.Ordering.{Ordering}
 use Rattle.std.specs.declared.cmp.Ordering.TheVariants.{Less, Equal, Greater}
 use Rattle.std.specs.Cmp.{tied_itself}
-use Rattle.std.specs.Vec.{vec_capacity}
 use Rattle.std.specs.FinMap.{entries, entries_sorted, entries-from_sorted, get, insert, remove, same_map, same_entries_map, from_sorted}
 use Rattle.std.specs.FinMap.Entries.{below_all, is_sorted}
 use Rattle.pk_values.specs.Order.{key_cmp}

@@ -1,5 +1,5 @@
 -- Which rows each version has after a call.
-use Rattle.std.proofs.Common.{◌≡◌, refl, ap, sym, subst, ◌∙◌, ℕ, ◌+◌, ◌-◌, ◌≤◌, ◌<◌, suc, zero, max, arith, List, [], ◌∷◌, ◌++◌, length, drop, Option, Some, None, cond, inl, inr, Bool as Truth, true, false, nat_lt, ◌==◌, if◌then◌else◌, append_assoc, add-one, Result, Ok, Err, OnOk, OnErr}
+use Rattle.std.proofs.Common.{◌≡◌, refl, ap, sym, subst, ◌∙◌, ℕ, ◌+◌, ◌-◌, ◌≤◌, ◌<◌, suc, zero, max, arith, List, [], ◌∷◌, ◌++◌, length, drop, Option, Some, None, inl, inr, Bool as Truth, true, false, nat_lt, if◌then◌else◌, Result, Ok, Err, OnOk, OnErr}
 use Rattle.std.specs.List.{slice_get}
 use Rattle.std.proofs.lemmas.Bool.{cases_lt}
 use Rattle.std.proofs.lemmas.List.{length-append}

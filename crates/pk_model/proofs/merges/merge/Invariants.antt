@@ -1,4 +1,4 @@
-use Rattle.std.proofs.Common.{◌≡◌, ◌++◌, ◌+◌, ℕ, length, T}
+use Rattle.std.proofs.Common.{◌≡◌, ◌++◌, ◌+◌, length, T}
 use Rattle.std.specs.FinMap.{entries}
 use Rattle.std.specs.FinMap.Entries.{is_sorted}
 use Rattle.pk_values.specs.Order.{key_cmp}

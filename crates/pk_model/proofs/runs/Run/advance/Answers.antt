@@ -1,5 +1,5 @@
-use Rattle.std.proofs.Common.{◌≡◌, sym, ◌∙◌, ap, subst, length, List, ◌++◌, ◌∷◌, [], ◌+◌, arith, append_assoc, T}
-use Rattle.pk_model.specs.Runs.{written, unread, HasRoom, are_up_to}
+use Rattle.std.proofs.Common.{◌≡◌, sym, ◌∙◌, subst, length, ◌∷◌, ◌+◌, T}
+use Rattle.pk_model.specs.Runs.{unread, HasRoom, are_up_to}
 use Rattle.pk_model.proofs.RunLaws.{moved-one, room-more, up_to-append}
 use Rattle.pk_model.proofs.runs.Run.advance.Goals as goal
 

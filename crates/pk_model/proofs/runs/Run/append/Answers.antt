@@ -1,5 +1,5 @@
-use Rattle.std.proofs.Common.{◌≡◌, sym, ◌∙◌, ap, subst, length, List, ◌++◌, ◌∷◌, [], ◌+◌, arith, append_assoc}
-use Rattle.pk_model.specs.Runs.{written, unread, HasRoom}
+use Rattle.std.proofs.Common.{◌≡◌, ◌∙◌, length, ◌∷◌}
+use Rattle.pk_model.specs.Runs.{unread}
 use Rattle.pk_model.proofs.RunLaws.{moved-one, room-one, nothing-left}
 use Rattle.pk_model.proofs.runs.Run.append.Goals as goal
 
