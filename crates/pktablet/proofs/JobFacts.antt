@@ -57,7 +57,7 @@ wanting s bytes l o e scanned = record {
 refused_outcome : (f : LoadFault) (found : Option Load) → (f ≡ fault.Unbuilt → found ≡ None) → LoadOutcome found None (outcome.Load f)
 refused_outcome fault.Unbuilt None h = inl refl
 refused_outcome fault.Unbuilt (Some l) h = let e = h refl in cc
-refused_outcome fault.Memory None h = inr (inl refl)
+refused_outcome fault.Memory None h = inr refl
 refused_outcome fault.Memory (Some l) h = inl refl
 
 pub refused : (s : Layout) (bytes : List ℕ) (f : LoadFault) (o : Outcome) → (f ≡ fault.Unbuilt → load_of s bytes ≡ None) → RowsOutcome 0 map.empty o
