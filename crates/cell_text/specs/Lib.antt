@@ -1,0 +1,4 @@
+pub mod Days
+pub mod Cells
+pub mod Texts
+pub mod Readings

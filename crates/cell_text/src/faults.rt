@@ -1,0 +1,12 @@
+use thiserror::Error;
+
+/// Why a cell could not be read.
+#[derive(Clone, Copy, Debug, Drop, PartialEq, Eq, Error)]
+pub enum CellFault {
+    /// The bytes are no value of the kind.
+    #[error("the bytes are no value of the column's type")]
+    BadCell,
+    /// Memory was wanted for a text.
+    #[error("memory ran out")]
+    Memory,
+}

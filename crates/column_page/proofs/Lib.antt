@@ -1,0 +1,6 @@
+pub mod OneCell
+pub mod RunFacts
+pub mod Joined
+pub mod WordFacts
+pub mod ReadFacts
+pub mod PageFacts

@@ -1,0 +1,5 @@
+pub mod CellBytes
+pub mod Page
+pub mod Words
+pub mod Reading
+pub mod Footers

@@ -1,0 +1,12 @@
+use std::alloc::{AllocError, AllocFailed};
+use thiserror::Error;
+
+/// Why bytes give no cells.
+#[derive(Clone, Copy, Debug, Drop, PartialEq, Eq, Error)]
+pub enum PageFault {
+    /// No cells of the column have this page.
+    #[error("the bytes are no page of the column")]
+    NotAPage,
+    #[error("memory ran out")]
+    Memory,
+}

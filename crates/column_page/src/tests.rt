@@ -1,0 +1,93 @@
+ghost use Rattle.std.specs.Prelude.{IsTrue};
+ghost use Rattle.pk_values.specs.Schemas.{is_kind};
+
+use crate::{PageFault, all_fit, decode_page, encode_page};
+use pk_values::{Column, Kind, Octets, Value};
+use std::alloc::{AllocError, Global};
+use std::process::Abort;
+use std::test::Fail;
+
+fn text(alloc: Global, bytes: &[u8]) -> Result<Value, AllocError> {
+    Ok(Value::Text(Octets::from_slice(alloc, bytes)?))
+}
+
+// Cells have this page, and it reads back as these cells.
+fn goes_both_ways(
+    rt: &impl Abort,
+    alloc: Global,
+    column: &Column,
+    cells: &[Value],
+    page: &[u8],
+) -> Result<(), Fail>
+    requires { IsTrue (is_kind column.now.kind) }
+{
+    assert!(rt; !cells.is_empty() && cells.len() <= 1024);
+    assert!(rt; all_fit(column, cells));
+    assert!(rt; encode_page(alloc, column, cells)?.as_slice() == page);
+    let back = decode_page(alloc, column, cells.len() as u32, page)?;
+    assert!(rt; back.as_slice() == cells);
+    Ok(())
+}
+
+#[test]
+fn equal_numbers_go_as_one_run(rt: HostRuntime) -> Result<(), Fail> {
+    let alloc = rt.alloc();
+    let ints = Column {
+        name: Octets::from_slice(alloc, b"n")?,
+        kind: Kind::Int,
+        nullable: false,
+        default: None,
+    };
+    let page = b"\x01\x00\x01\x00\x03\x80\x00\x00\x05".as_slice();
+    goes_both_ways(
+        &rt,
+        alloc,
+        &ints,
+        &[Value::Num(5), Value::Num(5), Value::Num(5)],
+        page,
+    )?;
+    assert!(rt; matches!(decode_page(alloc, &ints, 2, page), Err(PageFault::NotAPage)));
+    let apart = b"\x01\x00\x02\x00\x01\x80\x00\x00\x05\x00\x02\x80\x00\x00\x05".as_slice();
+    assert!(rt;
+        matches!(
+            decode_page(alloc, &ints, 3, apart),
+            Err(PageFault::NotAPage)
+        )
+    );
+    let plain = b"\x00\x80\x00\x00\x05\x80\x00\x00\x05\x80\x00\x00\x05".as_slice();
+    assert!(rt;
+        matches!(
+            decode_page(alloc, &ints, 3, plain),
+            Err(PageFault::NotAPage)
+        )
+    );
+    Ok(())
+}
+
+#[test]
+fn texts_in_turns_go_into_a_dictionary(rt: HostRuntime) -> Result<(), Fail> {
+    let alloc = rt.alloc();
+    let texts = Column {
+        name: Octets::from_slice(alloc, b"v")?,
+        kind: Kind::Varchar(4),
+        nullable: true,
+        default: None,
+    };
+    let long = [
+        text(alloc, b"abcd")?,
+        text(alloc, b"wxyz")?,
+        text(alloc, b"abcd")?,
+        text(alloc, b"wxyz")?,
+    ];
+    let page =
+        b"\x02\x00\x02\x01\x00\x04abcd\x01\x00\x04wxyz\x00\x00\x00\x01\x00\x00\x00\x01".as_slice();
+    goes_both_ways(&rt, alloc, &texts, &long, page)?;
+    let short = [
+        text(alloc, b"aa")?,
+        text(alloc, b"bb")?,
+        text(alloc, b"aa")?,
+        text(alloc, b"bb")?,
+    ];
+    let page = b"\x00\x01\x00\x02aa\x01\x00\x02bb\x01\x00\x02aa\x01\x00\x02bb".as_slice();
+    goes_both_ways(&rt, alloc, &texts, &short, page)
+}

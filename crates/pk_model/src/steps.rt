@@ -1,0 +1,213 @@
+ghost use Rattle.std.specs.Prelude.{◌≡◌, ◌<◌, ◌≤◌, ◌^◌, ◌+◌, IfOk, OnOk, OnErr, if◌then◌else◌};
+ghost use Rattle.std.specs.Option.{option_copied};
+ghost use Rattle.pk_model.specs.Books.{answer, answer_begin, answer_end, answer_expire, answer_give_up, answer_load, answer_open, answer_stat, change, change_begin, change_end, change_expire, change_give_up, change_load, open_answer, open_change, plan_at, version};
+
+use crate::books::{Book, Plan};
+use crate::calls::{Call, Load, Reply, Want};
+use crate::copies::{plan_after, table_after, without_first};
+use pk_values::{Items, Schema};
+use std::alloc::{AllocError, Global};
+use std::mem;
+
+/// Does a call at a place of a history, as a tablet with no device would: the reply is the answer of the book, and the book after it is the definition's. It is plain and slow, for trials of what is fast.
+///
+/// An error says that memory is wanted, or that the number of rowsets has come to the end of its type. It leaves the book as it was.
+pub fn step(
+    alloc: Global,
+    schema: &Schema,
+    book: &mut Book,
+    place: u64,
+    call: &Call,
+) -> Result<Reply, AllocError>
+    requires { version book.old < 2 ^ 62 }
+    ensures answers { IfOk result (λ reply. reply ≡ answer book.old call.now) }
+    ensures changes { OnOk result (book.new ≡ change schema.now book.old place call.now) }
+    ensures err { OnErr result (book.new ≡ book.old) }
+    ensures grows { version book.new ≤ version book.old + 1 }
+{
+    match book.closed {
+        Some(closed) => Ok(Reply::Closed(closed)),
+        None => open_step(alloc, schema, book, place, call),
+    }
+}
+
+// Does a call on an open book.
+fn open_step(
+    alloc: Global,
+    schema: &Schema,
+    book: &mut Book,
+    place: u64,
+    call: &Call,
+) -> Result<Reply, AllocError>
+    requires { version book.old < 2 ^ 62 }
+    ensures answers { IfOk result (λ reply. reply ≡ open_answer book.old call.now) }
+    ensures changes { OnOk result (book.new ≡ open_change schema.now book.old place call.now) }
+    ensures err { OnErr result (book.new ≡ book.old) }
+{
+    match call {
+        Call::Load(load) => publish(alloc, schema, book, load),
+        Call::Open(want) => Ok(open(book, *want)),
+        Call::Begin => begin(alloc, book, place),
+        Call::End(begun) => end(book, *begun),
+        Call::GiveUp(begun) => Ok(give_up(book, *begun)),
+        Call::Expire(floor) => Ok(expire(alloc, book, *floor)),
+        Call::Stat => Ok(stat(book)),
+    }
+}
+
+fn publish(
+    alloc: Global,
+    schema: &Schema,
+    book: &mut Book,
+    load: &Load,
+) -> Result<Reply, AllocError>
+    requires { version book.old < 2 ^ 62 }
+    ensures answers { IfOk result (λ reply. reply ≡ answer_load book.old) }
+    ensures changes { OnOk result (book.new ≡ change_load schema.now book.old load.now) }
+    ensures err { OnErr result (book.new ≡ book.old) }
+{
+    if book.older.as_slice().len() + 1 == 1000 {
+        return Ok(Reply::ManyVersions);
+    }
+    let version = book.version() + 1;
+    let rowsets = more_rowsets(book.rowsets, load.writes())?;
+    let plan = plan_after(alloc, &book.plan, load)?;
+    let next = table_after(alloc, schema, &book.current, load)?;
+    let kept = book.current.copy(alloc)?;
+    book.older.push(kept)?;
+    book.current = next;
+    book.rowsets = rowsets;
+    book.plan = plan;
+    Ok(Reply::Published(version))
+}
+
+// One more rowset where there is one to add.
+fn more_rowsets(rowsets: u64, one_more: bool) -> Result<u64, AllocError>
+    ensures { IfOk result (λ n. n ≡ rowsets + (if one_more then 1 else 0)) }
+{
+    if !one_more {
+        return Ok(rowsets);
+    }
+    match rowsets.checked_add(1) {
+        Some(rowsets) => Ok(rowsets),
+        None => Err(AllocError),
+    }
+}
+
+fn open(book: &Book, want: Want) -> Reply
+    requires { version book.now < 2 ^ 62 }
+    ensures { result ≡ answer_open book.now want }
+{
+    let current = book.version();
+    match want {
+        Want::Latest => Reply::Opened(current),
+        Want::At(version) => {
+            if version < book.floor {
+                Reply::Expired(book.floor)
+            } else if current < version {
+                Reply::NotYet(current)
+            } else {
+                Reply::Opened(version)
+            }
+        }
+    }
+}
+
+fn begin(alloc: Global, book: &mut Book, place: u64) -> Result<Reply, AllocError>
+    requires { version book.old < 2 ^ 62 }
+    ensures answers { IfOk result (λ reply. reply ≡ answer_begin book.old book.old.plan) }
+    ensures changes { OnOk result (book.new ≡ change_begin book.old place book.old.plan) }
+    ensures err { OnErr result (book.new ≡ book.old) }
+{
+    if let Some(plan) = &book.plan {
+        return Ok(Reply::Busy(plan.version));
+    }
+    let version = book.version();
+    let plan = Plan {
+        place,
+        version,
+        rowsets: book.rowsets,
+        rows: book.current.copy(alloc)?,
+        touched: Items::new(alloc),
+    };
+    book.plan = Some(plan);
+    Ok(Reply::Begun(version))
+}
+
+fn end(book: &mut Book, begun: u64) -> Result<Reply, AllocError>
+    ensures answers { IfOk result (λ reply. reply ≡ answer_end book.old (plan_at book.old.plan begun)) }
+    ensures changes { OnOk result (book.new ≡ change_end book.old (plan_at book.old.plan begun)) }
+    ensures err { OnErr result (book.new ≡ book.old) }
+{
+    let Some(plan) = plan_at(&book.plan, begun) else {
+        return Ok(Reply::NoPlan);
+    };
+    let before = book.rowsets;
+    let left = before.saturating_sub(plan.rowsets);
+    let rows = plan.rows.len() as u64;
+    let after = more_rowsets(left, rows != 0)?;
+    let late = plan.late();
+    book.rowsets = after;
+    book.plan = None;
+    Ok(Reply::Compacted {
+        before,
+        after,
+        rows,
+        late,
+    })
+}
+
+fn give_up(book: &mut Book, begun: u64) -> Reply
+    ensures answers { result ≡ answer_give_up (plan_at book.old.plan begun) }
+    ensures changes { book.new ≡ change_give_up book.old (plan_at book.old.plan begun) }
+{
+    if plan_at(&book.plan, begun).is_none() {
+        return Reply::NoPlan;
+    }
+    book.plan = None;
+    Reply::GaveUp
+}
+
+// The plan, where it was begun at this place.
+fn plan_at(plan: &Option<Plan>, begun: u64) -> Option<&Plan>
+    ensures { option_copied result ≡ plan_at plan.now begun }
+{
+    match plan {
+        Some(plan) => {
+            if plan.place == begun {
+                Some(plan)
+            } else {
+                None
+            }
+        }
+        None => None,
+    }
+}
+
+fn expire(alloc: Global, book: &mut Book, floor: u64) -> Reply
+    requires { version book.old < 2 ^ 62 }
+    ensures answers { result ≡ answer_expire book.old floor }
+    ensures changes { book.new ≡ change_expire book.old floor }
+{
+    let version = book.version();
+    if version < floor {
+        return Reply::NotYet(version);
+    }
+    let count = floor.saturating_sub(book.floor) as usize;
+    let older = mem::replace(&mut book.older, Items::new(alloc));
+    book.older = without_first(older, count);
+    book.floor = book.floor.max(floor);
+    Reply::Floor(book.floor)
+}
+
+fn stat(book: &Book) -> Reply
+    requires { version book.now < 2 ^ 62 }
+    ensures { result ≡ answer_stat book.now }
+{
+    Reply::Stat {
+        floor: book.floor,
+        version: book.version(),
+        rows: book.current.len() as u64,
+        rowsets: book.rowsets,
+    }
+}

@@ -1,0 +1,148 @@
+use crate::{TableFault, read_table};
+use pk_values::{Kind, SchemaFault, Value};
+use std::alloc::{AllocError, Global};
+
+// A table of these columns.
+fn table(alloc: Global, columns: &str, keys: &str) -> Result<String, AllocError> {
+    format!(in alloc; "{{\"columns\":[{columns}],\"keys\":{keys}}}")
+}
+
+const KEY: &str = r#"{"name":"k","type":"INT"}"#;
+
+#[test]
+fn texts_that_are_no_table(rt: HostRuntime) {
+    let alloc = rt.alloc();
+    for (text, fault) in [
+        ("", TableFault::NotJson),
+        (r#"{"columns":[],"keys":1"#, TableFault::NotJson),
+        (r#"{"columns":[],"keys":1}]"#, TableFault::NotJson),
+        ("[]", TableFault::Shape(0)),
+        (r#"{"columns":[5]}"#, TableFault::Shape(0)),
+        (r#"{"columns":{},"keys":1}"#, TableFault::Shape(0)),
+        (r#"{"columns":[5],"keys":1,"more":1}"#, TableFault::Shape(0)),
+        (r#"{"columns":[5],"keys":1.0}"#, TableFault::Shape(0)),
+        (r#"{"columns":[5],"keys":-1}"#, TableFault::Shape(0)),
+        (r#"{"columns":[5],"keys":4294967296}"#, TableFault::Shape(0)),
+        (r#"{"columns":[5],"keys":4294967295}"#, TableFault::Shape(1)),
+        (
+            r#"{"columns":[],"keys":4294967295}"#,
+            TableFault::Bad(SchemaFault::NoColumn),
+        ),
+        (
+            r#"{"columns":[],"keys":9,"keys":true}"#,
+            TableFault::Shape(0),
+        ),
+    ] {
+        assert!(rt;
+            read_table(alloc, text.as_bytes()).err() == Some(fault),
+            "{text}"
+        );
+    }
+    let broken = read_table(alloc, b"{\"columns\":[],\"keys\":1,\"\xff\":1}");
+    assert!(rt; broken.err() == Some(TableFault::NotJson));
+}
+
+#[test]
+fn columns_of_a_wrong_shape(rt: HostRuntime) -> Result<(), AllocError> {
+    let alloc = rt.alloc();
+    for column in [
+        "null",
+        r#"{"name":"v"}"#,
+        r#"{"type":"INT"}"#,
+        r#"{"name":1,"type":"INT"}"#,
+        r#"{"name":"v","type":"INT","key":true}"#,
+        r#"{"name":"v","type":"INT","nullable":null}"#,
+        r#"{"name":"v","type":"STRING"}"#,
+        r#"{"name":"v","type":"INT "}"#,
+        r#"{"name":"v","type":"VARCHAR"}"#,
+        r#"{"name":"v","type":"VARCHAR()"}"#,
+        r#"{"name":"v","type":"VARCHAR(+4)"}"#,
+        r#"{"name":"v","type":"VARCHAR(4294967296)"}"#,
+        r#"{"name":"v","type":"VARCHAR(00000000004)"}"#,
+        r#"{"name":"v","type":"INT","default":5}"#,
+        r#"{"name":"v","type":"INT","default":"x"}"#,
+        r#"{"name":"v","type":"TINYINT","default":"128"}"#,
+        r#"{"name":"v","type":"VARCHAR(2)","default":"abc"}"#,
+        r#"{"name":"v","type":"DATE","default":"2023-02-29"}"#,
+    ] {
+        let text = table(alloc, column, "0")?;
+        assert!(rt;
+            read_table(alloc, text.as_bytes()).err() == Some(TableFault::Shape(1)),
+            "{column}"
+        );
+        let columns = format!(in alloc; "{KEY},{column},5")?;
+        let text = table(alloc, columns.as_str(), "0")?;
+        assert!(rt;
+            read_table(alloc, text.as_bytes()).err() == Some(TableFault::Shape(2)),
+            "{column}"
+        );
+    }
+    Ok(())
+}
+
+#[test]
+fn columns_that_make_no_schema(rt: HostRuntime) -> Result<(), AllocError> {
+    let alloc = rt.alloc();
+    let bad_name = r#"{"name":"__v","type":"VARCHAR(0)","nullable":true}"#;
+    let bad_kind = r#"{"name":"k","type":"VARCHAR(65534)","nullable":true}"#;
+    let same = r#"{"name":"k","type":"INT","nullable":true,"default":"1"}"#;
+    let nullable = r#"{"name":"v","type":"INT","nullable":true,"default":"1"}"#;
+    let with_default = r#"{"name":"v","type":"INT","default":null}"#;
+    for (second, keys, fault) in [
+        (bad_name, "0", SchemaFault::NoKey),
+        (bad_name, "4", SchemaFault::ManyKeys),
+        (bad_name, "2", SchemaFault::NameUnfit(2)),
+        (bad_kind, "2", SchemaFault::KindUnfit(2)),
+        (same, "2", SchemaFault::SameName(1, 2)),
+        (nullable, "2", SchemaFault::KeyNullable(2)),
+        (with_default, "2", SchemaFault::KeyDefault(2)),
+        (with_default, "1", SchemaFault::DefaultUnfit(2)),
+    ] {
+        let columns = format!(in alloc; "{KEY},{second},{bad_name}")?;
+        let text = table(alloc, columns.as_str(), keys)?;
+        let told = read_table(alloc, text.as_bytes()).err();
+        assert!(rt; told == Some(TableFault::Bad(fault)), "{second} {keys}");
+    }
+    let mut many = String::new(alloc);
+    for _ in 0..64 {
+        many.push_str(KEY)?;
+        many.push_str(",")?;
+    }
+    many.push_str(bad_name)?;
+    let text = table(alloc, many.as_str(), "0")?;
+    let told = read_table(alloc, text.as_bytes()).err();
+    assert!(rt; told == Some(TableFault::Bad(SchemaFault::ManyColumns)));
+    Ok(())
+}
+
+#[test]
+fn a_table_with_each_type(rt: HostRuntime) {
+    let alloc = rt.alloc();
+    let text = br#"{"keys":9,"columns":[{"name":"k","type":"bigInt"},
+        {"name":"a","type":"Boolean","default":"TRUE"},{"name":"b","type":"tinyint"},
+        {"name":"c","type":"sMALLINT"},{"name":"d","type":"int","nullable":true,"default":"\\N"},
+        {"name":"e","type":"LargeInt","default":"-170141183460469231731687303715884105728"},
+        {"name":"f","type":"date","default":"1970-01-01"},
+        {"name":"g","type":"varCHAR(0065533)","nullable":true,"default":null}],"keys":1}"#;
+    let schema = read_table(alloc, text).expect(&rt, "a table");
+    assert!(rt; schema.keys() == 1 && schema.count() == 8);
+    let kinds = [
+        Kind::BigInt,
+        Kind::Boolean,
+        Kind::TinyInt,
+        Kind::SmallInt,
+        Kind::Int,
+        Kind::LargeInt,
+        Kind::Date,
+        Kind::Varchar(65_533),
+    ];
+    for (column, kind) in schema.columns().iter().zip(kinds) {
+        assert!(rt; column.kind == kind);
+    }
+    assert!(rt; schema.columns()[1].default == Some(Value::Bool(true)));
+    assert!(rt; schema.columns()[2].default.is_none() && !schema.columns()[2].nullable);
+    assert!(rt; schema.columns()[4].default == Some(Value::Null));
+    assert!(rt; schema.columns()[5].default == Some(Value::Num(i128::MIN)));
+    assert!(rt; schema.columns()[6].default == Some(Value::Day(719_528)));
+    assert!(rt; schema.columns()[7].nullable && schema.columns()[7].default == Some(Value::Null));
+}
