@@ -5,3 +5,4 @@ mod Keeping
 mod Steps
 mod Growing
 mod Views
+mod Beginning

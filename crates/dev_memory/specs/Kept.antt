@@ -42,3 +42,11 @@ pub record IsNewFile (number : ℕ) (bytes : List ℕ) (from : ℕ) (f : File) :
   pub bytes_is : f.bytes ≡ bytes
   pub from_is : f.from ≡ from
   pub until_is : f.until ≡ never
+
+-- what is kept at first
+abbrev pub at_first : List (List ℕ) → List File → Held
+at_first start files = record { start = start; deeds = []; files = files }
+
+-- a file of the first image
+abbrev pub first_file : ℕ × List ℕ → File
+first_file entry = record { number = entry.0; bytes = entry.1; from = 0; until = never }

@@ -6,5 +6,6 @@ pub mod Laws
 pub mod Maker
 pub mod Reader
 pub mod Sinks
+pub mod Store
 pub mod Strikes
 pub mod Told

@@ -4,7 +4,7 @@ ghost use Rattle.std.specs.List.{list_all};
 ghost use Rattle.std.specs.FinMap.Entries.{find};
 ghost use Rattle.dev_traits.specs.Image.{area_of};
 ghost use Rattle.dev_memory.specs.Areas.{bytes_in, has_room};
-ghost use Rattle.dev_memory.specs.Disk.{Wrote, Synced, Blanked, ChangedFiles, disk_now, read_of, entries_at, stands_at, is_in, closed, never};
+ghost use Rattle.dev_memory.specs.Disk.{Wrote, Synced, Blanked, ChangedFiles, disk_now, read_of, entries_at, stands_at, is_in, closed, never, settled_by};
 
 use crate::SharedBytes;
 use crate::area::Area;
@@ -111,8 +111,39 @@ fn append(bytes: &mut Vec<u8>, piece: &[u8])
     bytes.extend_from_slice(piece).unwrap();
 }
 
+// Areas with these bytes.
+fn areas_of(alloc: Global, start: &[Octets]) -> Result<Vec<Area>, Memory>
+    ensures { IfOk result (λ areas. map bytes_in areas.items ≡ start.now) }
+{
+    let mut areas = Vec::new(alloc);
+    for bytes in start {
+        let copy = Vec::from_slice(alloc, bytes.as_slice())?;
+        areas.push(Area::new(copy)?)?;
+    }
+    Ok(areas)
+}
+
 impl Kept {
-    ghost use Rattle.dev_memory.specs.Kept.{grown, with_files, IsValid, IsNewFile};
+    ghost use Rattle.dev_memory.specs.Kept.{grown, with_files, at_first, IsValid, IsNewFile};
+
+    /// Three areas with these bytes, and these files, before any call.
+    pub fn new(alloc: Global, start: Vec<Octets>, files: Vec<File>) -> Result<Kept, Memory>
+        requires three { length start.items ≡ 3 }
+        requires settled { list_all (settled_by 0) files.items ≡ true }
+        ensures held { IfOk result (λ kept. kept.held ≡ at_first start.items files.items) }
+        ensures valid { IfOk result (λ kept. IsValid kept.held) }
+    {
+        let areas = areas_of(alloc, &start)?;
+        Ok(Kept {
+            start,
+            areas,
+            calls: Vec::new(alloc),
+            pieces: Vec::new(alloc),
+            files,
+            spare_calls: 0,
+            spare_bytes: 0,
+        })
+    }
 
     /// The bytes of an area as it reads.
     pub fn area(&self, area: u32) -> &[u8]

@@ -4,6 +4,7 @@
 mod area;
 mod call;
 mod faults;
+mod image;
 mod inputs;
 mod kept;
 mod maker;
@@ -13,6 +14,7 @@ mod sink;
 mod store;
 
 pub use faults::Faults;
+pub use image::Image;
 pub use inputs::{MemInputs, MemSource};
 pub use maker::{MemMaker, MemSealed};
 pub use reader::MemReader;

@@ -1,16 +1,18 @@
-ghost use Rattle.std.specs.Prelude.{◌≡◌, ◌^◌, ◌+◌, ◌≤◌, None, length, take, drop, IfOk, IsErrOf, OnErr, IsTrue, IsFalse, refl};
+ghost use Rattle.std.specs.Prelude.{◌≡◌, ◌^◌, ◌+◌, ◌≤◌, None, length, map, take, drop, IfOk, IsErrOf, OnErr, IsTrue, IsFalse, refl};
 ghost use Rattle.std.specs.Ordering.{nat_cmp};
 ghost use Rattle.std.specs.FinMap.Entries.{find};
 ghost use Rattle.dev_traits.specs.Causes.{Rose};
 ghost use Rattle.dev_memory.specs.Laws.{counts, only, read_is_image, files_kept, empty_kept, three_read};
 ghost use Rattle.dev_memory.specs.Disk.{mem_view, disk_now, read_of, entries_at};
-ghost use Rattle.dev_memory.specs.Kept.{IsValid};
+ghost use Rattle.dev_memory.specs.Kept.{IsValid, first_file};
 ghost use Rattle.dev_memory.specs.Reader.{IsNew, Opens};
 
+use crate::call::{File, NEVER};
 use crate::faults::{Listed, strikes};
 use crate::kept::Kept;
-use crate::{MemMaker, MemReader, MemSealed, SharedBytes};
+use crate::{Faults, Image, MemMaker, MemReader, MemSealed, SharedBytes};
 use dev_traits::{DevError, Failed, FileMaker, Memory, SealedReader, Store};
+use pk_values::Octets;
 use std::alloc::{AllocError, Global};
 use std::sync::Arc;
 
@@ -199,5 +201,63 @@ impl Store for MemStore {
 
     fn give_back_reader(&mut self, reader: MemReader) {
         self.faults = self.faults.saturating_add(reader.faults());
+    }
+}
+
+// The files of an image, adopted before any call.
+fn files_of(alloc: Global, entries: Vec<(u64, Octets)>) -> Result<Vec<File>, Memory>
+    ensures { IfOk result (λ files. files.items ≡ map first_file entries.items) }
+{
+    let mut files = Vec::new(alloc);
+    for (number, text) in entries {
+        let bytes = SharedBytes::new(alloc, text.into_vec())?;
+        files.push(File {
+            number,
+            bytes,
+            from: 0,
+            until: NEVER,
+        })?;
+    }
+    Ok(files)
+}
+
+impl MemStore {
+    ghost use Rattle.std.specs.List.{list_all};
+    ghost use Rattle.dev_memory.specs.Disk.{settled_by};
+    ghost use Rattle.dev_memory.specs.Kept.{at_first};
+    ghost use Rattle.dev_memory.specs.Store.{Begins, empty_image, image_of, view_of};
+
+    /// A store of three empty areas, without a file.
+    pub fn new(alloc: Global, faults: Faults) -> Result<MemStore, Memory>
+        ensures { IfOk result (λ store. Begins empty_image (view_of store)) }
+    {
+        let mut areas = Vec::new(alloc);
+        areas.push(Octets::from_vec(Vec::new(alloc)))?;
+        areas.push(Octets::from_vec(Vec::new(alloc)))?;
+        areas.push(Octets::from_vec(Vec::new(alloc)))?;
+        let files = Vec::new(alloc);
+        MemStore::of_image(alloc, Image { areas, files }, faults)
+    }
+
+    /// A store that a crash left as this image. Of each number the first file counts.
+    pub fn of_image(alloc: Global, image: Image, faults: Faults) -> Result<MemStore, Memory>
+        requires { length image.areas.items ≡ 3 }
+        ensures { IfOk result (λ store. Begins (image_of image) (view_of store)) }
+    {
+        let files = files_of(alloc, image.files)?;
+        let kept = Kept::new(alloc, image.areas, files)?;
+        let maker_fails = Arc::new(alloc, faults.maker)?;
+        let reader_fails = Arc::new(alloc, faults.reader)?;
+        Ok(MemStore {
+            alloc,
+            kept,
+            fails: faults.store,
+            stop: faults.stop,
+            maker_fails,
+            reader_fails,
+            count: 0,
+            faults: 0,
+            is_honest: true,
+        })
     }
 }
