@@ -1,17 +1,30 @@
 -- The footer of a segment: what it tells of each block, and its bytes.
-use Rattle.std.specs.Prelude.{◌≡◌, ℕ, ◌+◌, ◌-◌, ◌<◌, ◌^◌, min, List, [], ◌∷◌, ◌++◌, length, drop, take, All, Bool as Truth, true, false, ◌&&◌, ◌==◌, nat_le, int_le, Option, Some, None, ⊤, slice_get, option_and_then}
+use Rattle.std.specs.Prelude.{ℕ, ℤ, pos, ◌+◌, ◌-◌, min, List, [], ◌∷◌, ◌++◌, length, Bool as Truth, true, false, ◌&&◌, ◌||◌, ◌==◌, nat_le, int_le, Option, Some, None, slice_get, option_and_then}
+use Rattle.std.specs.Int.{int_max, int_min}
 use Rattle.std.specs.List.{flat_map, list_all}
+use Rattle.pk_values.specs.declared.cells.Value.{Value}
+use Rattle.pk_values.specs.declared.cells.Value.TheVariants.{Null, Bool, Num, Day, Text}
 use Rattle.byteorder.specs.Endian.{big_bytes}
 use Rattle.sha2.specs.Sha256.{sha256}
-use Rattle.fixed_code.specs.NumberCode.{FitsBytes, number_code}
+use Rattle.fixed_code.specs.NumberCode.{number_code}
 use Rattle.column_page.specs.declared.footers.Span.{Span}
 use Rattle.column_page.specs.declared.footers.ColumnMark.{ColumnMark}
 use Rattle.column_page.specs.declared.footers.BlockMark.{BlockMark}
 use Rattle.column_page.specs.declared.footers.Footer.{Footer}
 
+-- numbers in four and in eight bytes, the high one first, and a number in the 16 bytes of a LARGEINT
+unfoldable pub u32_bytes : ℕ → List ℕ
+u32_bytes n = big_bytes 4 n
+
+unfoldable pub u64_bytes : ℕ → List ℕ
+u64_bytes n = big_bytes 8 n
+
+unfoldable pub wide_bytes : ℤ → List ℕ
+wide_bytes z = number_code 16 z
+
 abbrev pub span_bytes : Option Span → List ℕ
 span_bytes None = 0 ∷ []
-span_bytes (Some s) = 1 ∷ number_code 16 s.least ++ number_code 16 s.greatest
+span_bytes (Some s) = 1 ∷ wide_bytes s.least ++ wide_bytes s.greatest
 
 abbrev pub nulls_byte : Truth → ℕ
 nulls_byte false = 0
@@ -23,11 +36,11 @@ mark_bytes m = nulls_byte m.nulls ∷ span_bytes m.span
 
 -- where the block stands, its length without its digest, its rows and its column marks
 abbrev pub block_bytes : BlockMark → List ℕ
-block_bytes b = big_bytes 8 b.place ++ (big_bytes 4 b.length ++ (big_bytes 4 b.rows ++ flat_map mark_bytes b.marks))
+block_bytes b = u64_bytes b.place ++ (u32_bytes b.length ++ (u32_bytes b.rows ++ flat_map mark_bytes b.marks))
 
 -- `PKSG`, the form 1, the numbers of columns, rows and blocks, and each block
 abbrev pub footer_body : Footer → List ℕ
-footer_body f = 80 ∷ 75 ∷ 83 ∷ 71 ∷ 1 ∷ big_bytes 4 f.columns ++ (big_bytes 4 f.rows ++ (big_bytes 4 (length f.blocks) ++ flat_map block_bytes f.blocks))
+footer_body f = 80 ∷ 75 ∷ 83 ∷ 71 ∷ 1 ∷ u32_bytes f.columns ++ (u32_bytes f.rows ++ (u32_bytes (length f.blocks) ++ flat_map block_bytes f.blocks))
 
 abbrev pub footer_bytes : Footer → List ℕ
 footer_bytes f = footer_body f ++ sha256 (footer_body f)
@@ -58,33 +71,35 @@ abbrev pub nulls_in : Option ColumnMark → Truth
 nulls_in None = true
 nulls_in (Some m) = m.nulls
 
--- ---- numbers in their ranges, as the types of the code have them
+-- ---- the marks of a block's cells
 
-abbrev pub SpanFits : Option Span → Type 0
-SpanFits None = ⊤
-SpanFits (Some s) = FitsBytes 16 s.least × FitsBytes 16 s.greatest
+-- the number of a cell, if it has one: a BOOLEAN is 0 or 1, and a DATE is its day
+abbrev pub cell_number : Value → Option ℤ
+cell_number Null = None
+cell_number (Bool false) = Some (pos 0)
+cell_number (Bool true) = Some (pos 1)
+cell_number (Num n) = Some n
+cell_number (Day d) = Some d
+cell_number (Text t) = None
 
-abbrev pub MarkFits : ColumnMark → Type 0
-MarkFits m = SpanFits m.span
+-- the least and the greatest with one number more
+abbrev pub with_number : Option ℤ → Option Span → Option Span
+with_number None span = span
+with_number (Some z) None = Some (record { least = z; greatest = z })
+with_number (Some z) (Some s) = Some (record { least = int_min z s.least; greatest = int_max z s.greatest })
 
-pub record BlockFits (columns : ℕ) (b : BlockMark) : Type 0 where
-  pub place : b.place < 2 ^ 64
-  pub length_fits : b.length < 2 ^ 32
-  pub rows : b.rows < 2 ^ 32
-  pub number : length b.marks ≡ columns
-  pub marks : All MarkFits b.marks
+abbrev pub is_null : Value → Truth
+is_null Null = true
+is_null (Bool b) = false
+is_null (Num n) = false
+is_null (Day d) = false
+is_null (Text t) = false
 
--- the numbers of a footer are in the ranges of their types
-pub record FooterFits (f : Footer) : Type 0 where
-  pub blocks : All (BlockFits f.columns) f.blocks
+-- the mark with one cell more
+abbrev pub with_cell : Value → ColumnMark → ColumnMark
+with_cell v m = record { nulls = is_null v || m.nulls; span = with_number (cell_number v) m.span }
 
--- ---- elements one after the other
-
-pub record SequenceThen {X : Type 0} (IsOne : X → Type 0) (code : X → List ℕ) (count : ℕ) (bytes : List ℕ) (xs : List X) (rest : List ℕ) : Type 0 where
-  pub fit : All IsOne xs
-  pub number : length xs ≡ count
-  pub joined : flat_map code xs ++ rest ≡ bytes
-
-pub record HaveElements {X : Type 0} (code : X → List ℕ) (values : List X) (k at : ℕ) (bytes : List ℕ) (xs : List X) (rest : List ℕ) : Type 0 where
-  pub front : values ≡ take k xs
-  pub back : drop at bytes ≡ flat_map code (drop k xs) ++ rest
+-- whether some cell is NULL, and the least and the greatest number among the cells
+abbrev pub mark_of : List Value → ColumnMark
+mark_of [] = record { nulls = false; span = None }
+mark_of (v ∷ cells) = with_cell v (mark_of cells)

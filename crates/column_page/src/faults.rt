@@ -1,4 +1,3 @@
-use std::alloc::{AllocError, AllocFailed};
 use thiserror::Error;
 
 /// Why bytes give no cells.

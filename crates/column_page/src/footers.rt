@@ -39,6 +39,19 @@ impl Footer {
     ghost use Rattle.std.specs.Prelude.{◌≡◌, ◌<◌, ◌^◌, length, slice_get, OnSome, IfSome};
     ghost use Rattle.column_page.specs.Footers.{footer_body, is_footer, mark_at, nulls_in, span_in};
 
+    /// The footer of so many columns and rows in these blocks.
+    pub fn new(columns: u32, rows: u32, blocks: Items<BlockMark>) -> Footer
+        ensures columns { result.columns ≡ columns }
+        ensures rows { result.rows ≡ rows }
+        ensures blocks { result.blocks ≡ blocks }
+    {
+        Footer {
+            columns,
+            rows,
+            blocks,
+        }
+    }
+
     /// How many columns there are.
     pub fn columns(&self) -> u32
         ensures { result ≡ self.now.columns }

@@ -3,7 +3,9 @@
 
 mod decode;
 mod faults;
+mod footer_writes;
 mod footers;
+mod marks;
 mod pages;
 mod plain;
 mod reads;
@@ -12,7 +14,9 @@ mod values;
 mod words;
 
 pub use faults::PageFault;
+pub use footer_writes::write_footer;
 pub use footers::{BlockMark, ColumnMark, Footer, Span};
+pub use marks::mark_of;
 pub use pages::{all_fit, decode_page, encode_page};
 
 #[cfg(test)]

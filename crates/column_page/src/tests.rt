@@ -1,8 +1,10 @@
 ghost use Rattle.std.specs.Prelude.{IsTrue};
 ghost use Rattle.pk_values.specs.Schemas.{is_kind};
 
-use crate::{PageFault, all_fit, decode_page, encode_page};
-use pk_values::{Column, Kind, Octets, Value};
+use crate::{
+    BlockMark, Footer, PageFault, Span, all_fit, decode_page, encode_page, mark_of, write_footer,
+};
+use pk_values::{Column, Items, Kind, Octets, Value};
 use std::alloc::{AllocError, Global};
 use std::process::Abort;
 use std::test::Fail;
@@ -90,4 +92,35 @@ fn texts_in_turns_go_into_a_dictionary(rt: HostRuntime) -> Result<(), Fail> {
     ];
     let page = b"\x00\x01\x00\x02aa\x01\x00\x02bb\x01\x00\x02aa\x01\x00\x02bb".as_slice();
     goes_both_ways(&rt, alloc, &texts, &short, page)
+}
+
+#[test]
+fn the_footer_of_one_row(rt: HostRuntime) -> Result<(), Fail> {
+    let alloc = rt.alloc();
+    let mut marks = Items::new(alloc);
+    marks.push(mark_of(&[Value::Num(1)]))?;
+    marks.push(mark_of(&[text(alloc, b"a")?]))?;
+    marks.push(mark_of(&[Value::Num(1)]))?;
+    let mut blocks = Items::new(alloc);
+    blocks.push(BlockMark {
+        place: 0,
+        length: 31,
+        rows: 1,
+        marks,
+    })?;
+    let footer = Footer::new(3, 1, blocks);
+    let bytes = write_footer(alloc, &footer)?;
+    assert!(rt; bytes.as_slice().len() == 135);
+    assert!(rt;
+        bytes.as_slice().starts_with(
+            b"PKSG\x01\x00\x00\x00\x03\x00\x00\x00\x01\x00\x00\x00\x01\x00\x00\x00\x00\x00\x00\x00\x00\x00\x00\x00\x1f\x00\x00\x00\x01\x00\x01\x80\x00\x00\x00\x00\x00\x00\x00\x00\x00\x00\x00\x00\x00\x00\x01\x80\x00\x00\x00\x00\x00\x00\x00\x00\x00\x00\x00\x00\x00\x00\x01\x00\x00\x00\x01\x80".as_slice()
+        )
+    );
+    let one = Span {
+        least: 1,
+        greatest: 1,
+    };
+    assert!(rt; footer.span(0, 0) == Some(one) && footer.span(0, 1).is_none());
+    assert!(rt; !footer.nulls(0, 1) && footer.nulls(0, 3));
+    Ok(())
 }
