@@ -49,7 +49,7 @@ pub wanting : (s : Layout) (bytes : List ℕ) (l : Load) (o : Outcome) → load_
 wanting s bytes l o e scanned = record {
   replies = reply.Memory ∷ reply.Opened 0 ∷ [];
   in_order = (omega arith, refl, (omega arith, refl, tt));
-  legal = rw e (inr refl, (inl refl, tt));
+  legal = rw e (inr (tt, tt), (inl refl, tt));
   told = rw e (refl, (scanned, tt));
 }
 
