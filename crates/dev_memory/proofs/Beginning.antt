@@ -1,5 +1,5 @@
 -- A store in memory at first.
-use Rattle.std.proofs.Common.{◌≡◌, ℕ, ◌+◌, ◌≤◌, true, List, [], ◌∷◌, length, map, Some, get_or, refl, sym, ◌∙◌, ap, subst, arith}
+use Rattle.std.proofs.Common.{◌≡◌, ℕ, true, List, [], ◌∷◌, length, map, Some, get_or, refl, sym, ◌∙◌, ap, subst, arith}
 use Rattle.std.specs.List.{list_all}
 use Rattle.std.proofs.lemmas.Bool.{and_from, le-leb}
 use Rattle.std.proofs.Math.ListN.{get_or-map}
@@ -7,9 +7,8 @@ use Rattle.std.specs.Ordering.{nat_cmp}
 use Rattle.std.specs.FinMap.{from_entries}
 use Rattle.dev_traits.specs.Image.{Image, area_of}
 use Rattle.dev_memory.specs.Areas.{AreaView, bytes_in, has_room}
-use Rattle.dev_memory.specs.Disk.{AreaDisk, at_rest, bytes_of, area_disk, Reaches, disk_now, read_of, IsImage, Held, entries_at, settled_by, mem_view}
+use Rattle.dev_memory.specs.Disk.{AreaDisk, at_rest, bytes_of, Reaches, disk_now, read_of, IsImage, Held, entries_at, settled_by, mem_view}
 use Rattle.dev_memory.specs.Kept.{at_first, first_file, held, IsKept}
-use Rattle.dev_memory.specs.Laws.{area_read}
 use Rattle.dev_memory.specs.Store.{Begins}
 use Rattle.dev_memory.specs.declared.call.File.{File}
 use Rattle.dev_memory.specs.declared.call.Call.{Call}

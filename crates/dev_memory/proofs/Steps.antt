@@ -1,14 +1,14 @@
 -- What each call adds to what a crash may leave.
 use Rattle.std.proofs.Common.{◌≡◌, ◌≢◌, inl, inr, ⊎_elim, ℕ, ◌+◌, ◌≤◌, ◌<◌, Bool, true, false, cond, if◌then◌else◌, List, [], ◌∷◌, ◌++◌, length, take, set, map, Some, None, refl, sym, ◌∙◌, ap, subst, arith, length-append}
 use Rattle.std.proofs.lemmas.List.{take-append-le, get_or-set_same, get_or-set_other, length-set}
-use Rattle.std.proofs.lemmas.Bool.{cases_eq, and_from, le-leb}
+use Rattle.std.proofs.lemmas.Bool.{cases_eq}
 use Rattle.std.proofs.lemmas.Map.Views.{list_any-from_Contains}
 use Rattle.std.proofs.lemmas.Cmp.{nat_cmp_total, eq_by_cmp_equiv}
 use Rattle.std.specs.Ordering.{nat_cmp, eq_by_cmp}
 use Rattle.std.specs.FinMap.{get, insert, retain_keys, from_entries, entries, get-insert, get-entries}
 use Rattle.dev_traits.specs.Image.{Image, area_of, file, overwritten, with_area, Same, Elsewhere, Torn, TornIn, Blanked, Forgets}
 use Rattle.dev_traits.specs.View.{Leaves}
-use Rattle.dev_memory.specs.Disk.{Deed, AreaDisk, Disk, at_rest, area_disk, Reaches, IsImage, can_write, wrote, blanked, after, replay, entries_at, Held, disk_now, disk_at, MightSince, mem_view, is_in}
+use Rattle.dev_memory.specs.Disk.{Deed, AreaDisk, Disk, at_rest, area_disk, Reaches, IsImage, can_write, wrote, blanked, after, replay, entries_at, Held, disk_now, disk_at, mem_view, is_in}
 use Rattle.dev_memory.specs.Kept.{grown, IsValid}
 use Rattle.dev_memory.specs.Laws.{AreSound, disk_whole}
 use Rattle.dev_memory.proofs.Keeping.{replay-push}

@@ -1,5 +1,5 @@
 -- The calls, as contracts see them.
-use Rattle.std.proofs.Common.{◌≡◌, ◌≢◌, ◌⊎◌, inl, inr, ℕ, ◌+◌, ◌≤◌, ◌<◌, Bool, true, false, cond, if◌then◌else◌, List, [], ◌∷◌, ◌++◌, length, get_or, set, map, Option, Some, None, Result, Ok, Err, IfOk, refl, sym, ◌∙◌, ap, subst, arith, length-append}
+use Rattle.std.proofs.Common.{◌≡◌, ◌⊎◌, inl, inr, ℕ, ◌+◌, ◌≤◌, ◌<◌, Bool, true, false, cond, if◌then◌else◌, List, [], ◌∷◌, ◌++◌, length, set, map, Option, Some, None, Result, Ok, Err, IfOk, refl, sym, ◌∙◌, ap, subst, arith, length-append}
 use Rattle.std.proofs.lemmas.List.{map-set, get_or-set_other, set-get_or, append-nil}
 use Rattle.std.proofs.lemmas.Map.Views.{list_any-from_Contains}
 use Rattle.std.proofs.lemmas.Cmp.{nat_cmp_total, eq_by_cmp_equiv}
@@ -15,7 +15,7 @@ use Rattle.dev_memory.specs.Kept.{grown, with_files, IsValid, IsNewFile}
 use Rattle.dev_memory.specs.Laws.{area_read, sound, three}
 use Rattle.dev_memory.specs.declared.call.File.{File}
 use Rattle.dev_memory.proofs.Keeping.{wrote-bytes, replay-push}
-use Rattle.dev_memory.proofs.Steps.{Step, From, Grows, no_step, no_call, one_call, grows_grown, disk_grown, with_area_disk, write_step, blank_step, sync_area, sync_step, area_at, adopt_step, adopted, forget_step}
+use Rattle.dev_memory.proofs.Steps.{Step, From, Grows, no_step, no_call, one_call, grows_grown, disk_grown, write_step, blank_step, sync_area, sync_step, area_at, adopt_step, adopted, forget_step}
 use Rattle.dev_memory.proofs.Files.{entries-later, entries-push, entries-new, entries-not_yet, entries-closed_before, files-closed, get-kept}
 
 -- Nothing is noted.
@@ -85,8 +85,8 @@ module _ (h h' : Held) (valid : IsValid h) (a : ℕ) (lt : a < 3) where
       let some : 1 ≤ length (area_disk (disk_now h) a).bytes = subst (λ (l : List ℕ). 1 ≤ length l) read long in
       let inside : at ≤ length (area_disk (disk_now h) a).bytes = subst (λ (l : List ℕ). at ≤ length l) read le in
       let areas = map-set bytes_of (disk_now h).areas a (wrote at piece ok (area_disk (disk_now h) a))
-          ∙ ap (set (map bytes_of (disk_now h).areas) a) (wrote-bytes at piece ok (area_disk (disk_now h) a) some inside
-          ∙ ap (λ (l : List ℕ). if ok then overwritten l at piece else l) (sym read)) in
+      ∙ ap (set (map bytes_of (disk_now h).areas) a) (wrote-bytes at piece ok (area_disk (disk_now h) a) some inside
+      ∙ ap (λ (l : List ℕ). if ok then overwritten l at piece else l) (sym read)) in
       ap read_of (area_now (Wrote a at piece ok) is) ∙ (λ i. record { areas = areas i; files = (disk_now h).files })
 
   pub blank_crash : (ok : Bool) → h' ≡ grown h (disk.Blanked a ok) → (b : Bool) (f c y f' c' y' : ℕ) → Leaves (Blanked a) (mem_view h b f c y) (mem_view h' b f' c' y')
@@ -99,7 +99,7 @@ module _ (h h' : Held) (valid : IsValid h) (a : ℕ) (lt : a < 3) where
   pub blank_read : (ok : Bool) → h' ≡ grown h (disk.Blanked a ok) → read_of (disk_now h') ≡ with_area a (if ok then 0 ∷ [] else area_of Old a) Old
   blank_read ok is =
       let areas = map-set bytes_of (disk_now h).areas a (blanked ok (area_disk (disk_now h) a))
-          ∙ ap (set (map bytes_of (disk_now h).areas) a) (blanked_bytes ok (area_disk (disk_now h) a) ∙ ap (λ (l : List ℕ). if ok then 0 ∷ [] else l) (sym (area_read (disk_now h) a))) in
+      ∙ ap (set (map bytes_of (disk_now h).areas) a) (blanked_bytes ok (area_disk (disk_now h) a) ∙ ap (λ (l : List ℕ). if ok then 0 ∷ [] else l) (sym (area_read (disk_now h) a))) in
       ap read_of (area_now (disk.Blanked a ok) is) ∙ (λ i. record { areas = areas i; files = (disk_now h).files })
 
   pub blank_durable : h' ≡ grown h (disk.Blanked a true) → (left : Image) → IsImage (disk_now h') left → area_of left a ≡ 0 ∷ []
@@ -110,7 +110,7 @@ module _ (h h' : Held) (valid : IsValid h) (a : ℕ) (lt : a < 3) where
   pub sync_read : h' ≡ grown h (Synced a) → read_of (disk_now h') ≡ Old
   sync_read is =
       let areas = map-set bytes_of (disk_now h).areas a (at_rest (area_disk (disk_now h) a).bytes)
-          ∙ ap (set (map bytes_of (disk_now h).areas) a) (sym (area_read (disk_now h) a)) ∙ set-get_or (map bytes_of (disk_now h).areas) a [] in
+      ∙ ap (set (map bytes_of (disk_now h).areas) a) (sym (area_read (disk_now h) a)) ∙ set-get_or (map bytes_of (disk_now h).areas) a [] in
       ap read_of (area_now (Synced a) is) ∙ (λ i. record { areas = areas i; files = (disk_now h).files })
 
   pub sync_crash : h' ≡ grown h (Synced a) → (b : Bool) (f c y f' c' y' : ℕ) → Leaves Same (mem_view h b f c y) (mem_view h' b f' c' y')
@@ -141,10 +141,10 @@ module _ (h h' : Held) (valid : IsValid h) (number : ℕ) (bytes : List ℕ) (f 
   disk_adopted none =
       let m = length (h.deeds ++ ChangedFiles ∷ []) in
       let there : entries_at m (h.files ++ f ∷ []) ≡ entries_at (length h.deeds) h.files ++ (number, bytes) ∷ [] =
-          entries-push m h.files f
-          ∙ (λ i. entries-later (length h.deeds) m h.files valid.settled (longer h) i ++ (entries-new m f (omega (arith, longer h, new.from_is)) new.until_is ∙ (λ j. (new.number_is j, new.bytes_is j) ∷ [])) i) in
+      entries-push m h.files f
+      ∙ (λ i. entries-later (length h.deeds) m h.files valid.settled (longer h) i ++ (entries-new m f (omega (arith, longer h, new.from_is)) new.until_is ∙ (λ j. (new.number_is j, new.bytes_is j) ∷ [])) i) in
       let files = ap (λ (l : List (ℕ × List ℕ)). from_entries {R = nat_cmp} l) there
-          ∙ from_entries_push nat_cmp_total nat_cmp-IsAntisymmetric (entries_at (length h.deeds) h.files) number bytes (sym (get-from_entries nat_cmp_total (entries_at (length h.deeds) h.files) number) ∙ none) in
+      ∙ from_entries_push nat_cmp_total nat_cmp-IsAntisymmetric (entries_at (length h.deeds) h.files) number bytes (sym (get-from_entries nat_cmp_total (entries_at (length h.deeds) h.files) number) ∙ none) in
       (λ i. record { areas = areas i; files = files i })
     where
       areas : (disk_now Next).areas ≡ (disk_now h).areas
@@ -170,7 +170,7 @@ module _ (h h' : Held) (valid : IsValid h) (keep : List ℕ) (short : length h.d
   disk_fewer : disk_now Fewer ≡ record { areas = (disk_now h).areas; files = retain_keys (disk_now h).files (is_in keep) }
   disk_fewer =
       let files = ap (λ (n : ℕ). from_entries {R = nat_cmp} (entries_at n (map (closed keep (length h.deeds + 1)) h.files))) (longer h)
-          ∙ files-closed keep (length h.deeds) (length h.deeds + 1) h.files valid.settled refl short in
+      ∙ files-closed keep (length h.deeds) (length h.deeds + 1) h.files valid.settled refl short in
       (λ i. record { areas = areas i; files = files i })
     where
       areas : (disk_now Fewer).areas ≡ (disk_now h).areas

@@ -1,5 +1,5 @@
 -- What a store in memory keeps, by its parts.
-use Rattle.std.specs.Prelude.{◌≡◌, ℕ, ◌≤◌, Bool, true, List, [], ◌∷◌, ◌++◌, length, map}
+use Rattle.std.specs.Prelude.{◌≡◌, ℕ, ◌≤◌, true, List, [], ◌∷◌, ◌++◌, length, map}
 use Rattle.std.specs.List.{list_all}
 use Rattle.dev_memory.specs.Areas.{AreaView, bytes_in, has_room}
 use Rattle.dev_memory.specs.Disk.{Held, Deed, deeds, written, bytes_of, disk_now, settled_by, never}

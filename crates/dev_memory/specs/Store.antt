@@ -1,12 +1,10 @@
 -- A store in memory as it begins.
-use Rattle.std.specs.Prelude.{◌≡◌, ℕ, List, [], ◌∷◌, Some, IsTrue}
-use Rattle.std.specs.Ordering.{nat_cmp}
+use Rattle.std.specs.Prelude.{◌≡◌, ℕ, [], ◌∷◌, Some, IsTrue}
 use Rattle.std.specs.FinMap.{empty, from_entries}
 use Rattle.dev_traits.specs.Image as seen
 use Rattle.dev_traits.specs.Image.{area_of}
 use Rattle.dev_traits.specs.View.{View, EachImage}
-use Rattle.dev_memory.specs.Disk.{mem_view, never}
-use Rattle.dev_memory.specs.declared.call.File.{File}
+use Rattle.dev_memory.specs.Disk.{mem_view}
 use Rattle.dev_memory.specs.declared.image.Image.{Image}
 use Rattle.dev_memory.specs.declared.store.MemStore.{MemStore}
 

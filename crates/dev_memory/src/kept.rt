@@ -193,7 +193,8 @@ impl Kept {
         ensures calls { self.old.spare_calls ≡ self.new.spare_calls + 1 }
         ensures bytes { self.old.spare_bytes ≡ self.new.spare_bytes + length piece.now }
     {
-        self.calls.push_reserved(Call::Write(area, at, piece.len(), true));
+        self.calls
+            .push_reserved(Call::Write(area, at, piece.len(), true));
         append(&mut self.pieces, piece);
         self.spare_calls -= 1;
         self.spare_bytes -= piece.len() as u64;
@@ -211,7 +212,8 @@ impl Kept {
         ensures calls { self.old.spare_calls ≡ self.new.spare_calls + 1 }
         ensures bytes { self.old.spare_bytes ≡ self.new.spare_bytes + length piece.now }
     {
-        self.calls.push_reserved(Call::Write(area, at, piece.len(), false));
+        self.calls
+            .push_reserved(Call::Write(area, at, piece.len(), false));
         append(&mut self.pieces, piece);
         self.spare_calls -= 1;
         self.spare_bytes -= piece.len() as u64;

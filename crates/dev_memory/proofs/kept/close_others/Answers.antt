@@ -1,4 +1,4 @@
-use Rattle.std.proofs.Common.{◌≡◌, ◌∙◌, ◌++◌, ℕ, ◌+◌, suc, List, map, set, take, drop, get_or, length, refl, sym, ap, add-one, arith}
+use Rattle.std.proofs.Common.{◌∙◌, ◌++◌, ℕ, List, map, set, take, drop, get_or, refl, sym, ap, add-one, arith}
 use Rattle.dev_memory.specs.Disk.{closed}
 use Rattle.dev_memory.specs.declared.call.File.{File}
 use Rattle.dev_memory.proofs.Files.{changed-step, changed-all}

@@ -1,4 +1,4 @@
-use Rattle.std.proofs.Common.{◌≡◌, ◌∙◌, ℕ, nat_eq, Bool, true, false, ◌&&◌, Some, get_or, sym, ap, arith}
+use Rattle.std.proofs.Common.{◌≡◌, ◌∙◌, nat_eq, true, false, ◌&&◌, Some, get_or, sym, ap, arith}
 use Rattle.dev_memory.specs.Disk.{stands_at}
 use Rattle.dev_memory.specs.declared.call.File.{File}
 use Rattle.dev_memory.proofs.Files.{find-here, find-later}

@@ -1,4 +1,4 @@
-use Rattle.std.proofs.Common.{◌≡◌, ◌∙◌, ℕ, ◌+◌, suc, true, List, take, set, length, refl, sym, ap, subst, add-one, arith}
+use Rattle.std.proofs.Common.{◌∙◌, ℕ, take, set, refl, sym, ap, add-one, arith}
 use Rattle.std.specs.List.{list_all}
 use Rattle.std.proofs.lemmas.List.{take_all}
 use Rattle.dev_memory.specs.Areas.{AreaView, has_room}

@@ -1,6 +1,6 @@
-use Rattle.std.proofs.Common.{◌≡◌, ℕ, ◌+◌, ◌≤◌, ◌<◌, List, [], ◌∷◌, ◌++◌, length, refl, sym, ◌∙◌, ap, subst, arith, true, false, rules}
-use Rattle.dev_memory.specs.Kept.{KeptView, IsValid, grown}
-use Rattle.dev_memory.specs.Disk.{Deed, Wrote, Synced, Blanked, ChangedFiles, disk_now, read_of}
+use Rattle.std.proofs.Common.{◌∙◌, ap, rules}
+use Rattle.dev_memory.specs.Kept.{KeptView}
+use Rattle.dev_memory.specs.Disk.{disk_now, read_of}
 use Rattle.dev_traits.specs.Image.{area_of}
 use Rattle.dev_memory.proofs.Growing.{area_count, area_bytes}
 use Rattle.dev_memory.proofs.kept.Kept.area.Goals as goal

@@ -1,6 +1,6 @@
-use Rattle.std.proofs.Common.{◌≡◌, ℕ, ◌+◌, ◌≤◌, ◌<◌, List, [], ◌∷◌, ◌++◌, length, refl, sym, ◌∙◌, ap, subst, arith, true, false, rules}
-use Rattle.dev_memory.specs.Kept.{KeptView, IsValid, grown}
-use Rattle.dev_memory.specs.Disk.{Deed, Wrote, Synced, Blanked, ChangedFiles, disk_now, read_of}
+use Rattle.std.proofs.Common.{◌∙◌, ap, arith, false}
+use Rattle.dev_memory.specs.Kept.{KeptView, grown}
+use Rattle.dev_memory.specs.Disk.{Blanked}
 use Rattle.dev_memory.proofs.Growing.{blank_deeds, keep_fail_blank, valid_after, held_after}
 use Rattle.dev_memory.proofs.kept.Kept.fail_blank.Goals as goal
 

@@ -1,7 +1,6 @@
-use Rattle.std.proofs.Common.{◌≡◌, ℕ, ◌+◌, ◌≤◌, List, [], ◌∷◌, ◌++◌, length, refl, sym, ◌∙◌, ap, arith, true, false}
-use Rattle.dev_traits.specs.Image.{area_of, overwritten}
+use Rattle.std.proofs.Common.{length, refl, ◌∙◌, ap, arith, false}
 use Rattle.dev_memory.specs.Kept.{KeptView, grown}
-use Rattle.dev_memory.specs.Disk.{Wrote, disk_now, read_of}
+use Rattle.dev_memory.specs.Disk.{Wrote}
 use Rattle.dev_memory.proofs.Growing.{keep_fail_write, write_deeds, valid_after, held_after}
 use Rattle.dev_memory.proofs.kept.Kept.fail_write.Goals as goal
 

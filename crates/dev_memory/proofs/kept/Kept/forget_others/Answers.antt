@@ -1,8 +1,7 @@
-use Rattle.std.proofs.Common.{◌≡◌, ◌≢◌, ℕ, ◌+◌, ◌≤◌, List, [], ◌∷◌, ◌++◌, length, map, true, take, drop, refl, sym, ◌∙◌, ap, arith}
+use Rattle.std.proofs.Common.{◌≡◌, ℕ, ◌+◌, length, map, sym, ◌∙◌, ap, arith}
 use Rattle.std.specs.List.{list_all}
 use Rattle.dev_memory.specs.Kept.{KeptView, held, grown, with_files}
-use Rattle.dev_memory.specs.Disk.{Held, deeds, ChangedFiles, settled_by, never, closed}
-use Rattle.dev_memory.specs.declared.call.File.{File}
+use Rattle.dev_memory.specs.Disk.{deeds, ChangedFiles, settled_by, closed}
 use Rattle.dev_memory.proofs.Calls.{length-deeds}
 use Rattle.dev_memory.proofs.Files.{settled-closed, whole-new}
 use Rattle.dev_memory.proofs.Growing.{keep_files, files_after}
@@ -13,8 +12,8 @@ invariant_of-self c =
     let count : c.len.result ≡ length (deeds c.self.inside.pieces.items c.self.inside.calls.items) = omega (arith, c.len.ensures, c.self.inside.calls.ok, length-deeds c.self.inside.calls.items c.self.inside.pieces.items) in
     let files = whole-new (closed c.args.keep.now (c.len.result + 1)) c.self.inside.files.len c.self.inside.files.items c.deref_mut.result.now c.close_others.new.files (sym c.self.inside.files.ok.0) c.deref_mut.ensures.value c.close_others.ensures in
     let settled = ap (list_all (settled_by (length (deeds c.self.inside.pieces.items c.self.inside.calls.items) + 1))) files
-        ∙ ap (λ (n : ℕ). list_all (settled_by (n + 1)) (map (closed c.args.keep.now (c.len.result + 1)) c.self.inside.files.items)) (sym count)
-        ∙ settled-closed c.args.keep.now (length (deeds c.self.inside.pieces.items c.self.inside.calls.items)) (c.len.result + 1) c.self.inside.files.items (omega (arith, count)) c.self.invariant.valid.settled in
+    ∙ ap (λ (n : ℕ). list_all (settled_by (n + 1)) (map (closed c.args.keep.now (c.len.result + 1)) c.self.inside.files.items)) (sym count)
+    ∙ settled-closed c.args.keep.now (length (deeds c.self.inside.pieces.items c.self.inside.calls.items)) (c.len.result + 1) c.self.inside.files.items (omega (arith, count)) c.self.invariant.valid.settled in
     keep_files _ _ _ _ _ _ _ _ _ _ c.self.invariant _ _ _ _ _ c.push_reserved.ensures.items settled
     (omega (arith, c.self.invariant.for_calls, c.push_reserved.ensures.len, c.push_reserved.ensures.capacity))
     (omega (arith, c.self.invariant.for_files))

@@ -1,5 +1,4 @@
 use Rattle.std.proofs.Common.{◌∙◌}
-use Rattle.dev_memory.specs.Kept.{IsValid}
 use Rattle.dev_memory.proofs.Beginning.{kept-first, held-first}
 use Rattle.dev_memory.proofs.kept.Kept.new.Goals as goal
 

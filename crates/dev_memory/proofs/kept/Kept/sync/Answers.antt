@@ -1,7 +1,7 @@
-use Rattle.std.proofs.Common.{◌≡◌, ℕ, ◌+◌, ◌≤◌, ◌<◌, List, [], ◌∷◌, ◌++◌, length, refl, sym, ◌∙◌, ap, subst, arith, true, false, rules}
-use Rattle.dev_memory.specs.Kept.{KeptView, IsValid, grown}
-use Rattle.dev_memory.specs.Disk.{Deed, Wrote, Synced, Blanked, ChangedFiles, disk_now, read_of}
-use Rattle.dev_memory.proofs.Growing.{sync_deeds, keep_sync, valid_after, held_after, seen_held}
+use Rattle.std.proofs.Common.{◌∙◌, ap, arith}
+use Rattle.dev_memory.specs.Kept.{KeptView, grown}
+use Rattle.dev_memory.specs.Disk.{Synced}
+use Rattle.dev_memory.proofs.Growing.{sync_deeds, keep_sync, valid_after, held_after}
 use Rattle.dev_memory.proofs.kept.Kept.sync.Goals as goal
 
 pub invariant_of-self : goal.invariant_of-self

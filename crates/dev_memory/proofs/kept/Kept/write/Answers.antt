@@ -1,4 +1,4 @@
-use Rattle.std.proofs.Common.{◌≡◌, ℕ, ◌+◌, ◌≤◌, List, [], ◌∷◌, ◌++◌, length, refl, sym, ◌∙◌, ap, arith, true, false}
+use Rattle.std.proofs.Common.{ℕ, List, length, refl, ◌∙◌, ap, arith, true}
 use Rattle.dev_traits.specs.Image.{area_of, overwritten}
 use Rattle.dev_memory.specs.Kept.{KeptView, grown}
 use Rattle.dev_memory.specs.Disk.{Wrote, disk_now, read_of}

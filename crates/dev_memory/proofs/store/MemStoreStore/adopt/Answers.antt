@@ -1,7 +1,7 @@
-use Rattle.std.proofs.Common.{◌≡◌, ℕ, List, Option, arith, refl, sym, ◌∙◌, ap, subst, Some}
+use Rattle.std.proofs.Common.{◌≡◌, ℕ, List, refl, ◌∙◌, ap, Some}
 use Rattle.dev_memory.proofs.Views.{adopt_read, adopt_crash, adopt_durable}
 use Rattle.dev_memory.proofs.store.MemStoreStore.adopt.Goals as goal
-use Rattle.dev_traits.specs.Image.{Image, with_file}
+use Rattle.dev_traits.specs.Image.{with_file}
 use Rattle.dev_memory.specs.Disk.{read_of, disk_now}
 use Rattle.dev_memory.proofs.Steps.{no_call}
 

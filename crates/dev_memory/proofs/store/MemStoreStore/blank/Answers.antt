@@ -1,5 +1,5 @@
-use Rattle.std.proofs.Common.{arith, refl, sym, ◌∙◌, ap, Some, true, false}
-use Rattle.dev_memory.proofs.Views.{blank_still, blank_read, blank_crash, blank_durable, reads_elsewhere}
+use Rattle.std.proofs.Common.{ap, Some, true, false}
+use Rattle.dev_memory.proofs.Views.{blank_read, blank_crash, blank_durable, reads_elsewhere}
 use Rattle.dev_memory.proofs.store.MemStoreStore.blank.Goals as goal
 
 pub returns-then-strikes-clause-crash : goal.returns-then-strikes-clause-crash

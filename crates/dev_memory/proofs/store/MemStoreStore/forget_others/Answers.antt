@@ -1,4 +1,4 @@
-use Rattle.std.proofs.Common.{arith, refl, sym, ◌∙◌, ap, Some}
+use Rattle.std.proofs.Common.{ap, Some}
 use Rattle.dev_memory.proofs.Views.{forget_still, forget_read, forget_crash, forget_kept, same_files}
 use Rattle.dev_memory.proofs.store.MemStoreStore.forget_others.Goals as goal
 

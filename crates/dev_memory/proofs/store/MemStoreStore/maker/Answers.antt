@@ -1,4 +1,4 @@
-use Rattle.std.proofs.Common.{arith, refl, sym, ◌∙◌, ap}
+use Rattle.std.proofs.Common.{arith}
 use Rattle.dev_memory.proofs.Views.{calm}
 use Rattle.dev_memory.proofs.store.MemStoreStore.maker.Goals as goal
 

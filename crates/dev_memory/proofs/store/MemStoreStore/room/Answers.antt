@@ -1,4 +1,3 @@
-use Rattle.std.proofs.Common.{arith, refl, sym, ◌∙◌, ap}
 use Rattle.dev_memory.proofs.Views.{calm_as}
 use Rattle.dev_memory.proofs.store.MemStoreStore.room.Goals as goal
 

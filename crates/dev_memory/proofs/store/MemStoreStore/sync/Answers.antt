@@ -1,4 +1,4 @@
-use Rattle.std.proofs.Common.{arith, refl, sym, ◌∙◌, ap, Some}
+use Rattle.std.proofs.Common.{ap, Some}
 use Rattle.dev_memory.proofs.Views.{sync_read, sync_crash, sync_durable}
 use Rattle.dev_memory.proofs.store.MemStoreStore.sync.Goals as goal
 use Rattle.dev_memory.proofs.Steps.{no_call}

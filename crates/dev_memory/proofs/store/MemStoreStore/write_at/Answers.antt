@@ -1,5 +1,5 @@
-use Rattle.std.proofs.Common.{arith, refl, sym, ◌∙◌, ap, Some, true, false}
-use Rattle.dev_memory.proofs.Views.{write_still, write_crash, write_read, reads_elsewhere, same_elsewhere}
+use Rattle.std.proofs.Common.{refl, ap, Some, true, false}
+use Rattle.dev_memory.proofs.Views.{write_still, write_crash, write_read, reads_elsewhere}
 use Rattle.dev_memory.proofs.store.MemStoreStore.write_at.Goals as goal
 
 pub returns-then-not-is_within-clause-crash : goal.returns-then-not-is_within-clause-crash
