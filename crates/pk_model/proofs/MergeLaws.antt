@@ -108,32 +108,32 @@ rise-next : (a : Op) (ops : List Op) → T (rise (a ∷ ops)) → T (rise ops)
 rise-next a [] h = tt
 rise-next a (b ∷ ops) h = run.second _ _ h
 
-module _ (given : List ℕ) (line : Line) (lines : List Line) (D0 R0 D1 R1 D2 : List Pair)
-    (same : D1 ++ R1 ≡ D0 ++ R0)
-    (behind : T (are_up_to (key_named line.op) D0) → T (are_up_to (key_named line.op) D1))
-    (above : T (is_sorted key_cmp (D1 ++ R1)) → T (below_all key_cmp (key_named line.op) R1))
-    (acts : Settles given line.op line.new_row D1 D2)
-    (order : KeepsOrder line.op D1 D2)
-    (up_to : StaysUpTo line.op D1 D2)
-    (in_order : T (is_sorted key_cmp (D0 ++ R0)))
-    (awaited : T (await (line.op ∷ ops_of lines) D0))
+module _ (given : List ℕ) (line : Line) (lines : List Line) (old_done old_rest moved_done moved_rest new_done : List Pair)
+    (same : moved_done ++ moved_rest ≡ old_done ++ old_rest)
+    (behind : T (are_up_to (key_named line.op) old_done) → T (are_up_to (key_named line.op) moved_done))
+    (above : T (is_sorted key_cmp (moved_done ++ moved_rest)) → T (below_all key_cmp (key_named line.op) moved_rest))
+    (acts : Settles given line.op line.new_row moved_done new_done)
+    (order : KeepsOrder line.op moved_done new_done)
+    (up_to : StaysUpTo line.op moved_done new_done)
+    (in_order : T (is_sorted key_cmp (old_done ++ old_rest)))
+    (awaited : T (await (line.op ∷ ops_of lines) old_done))
     (rises : T (rise (line.op ∷ ops_of lines))) where
-  order1 : T (is_sorted key_cmp (D1 ++ R1))
+  order1 : T (is_sorted key_cmp (moved_done ++ moved_rest))
   order1 = subst (λ es. T (is_sorted key_cmp es)) (sym same) in_order
 
-  pub turn-order : T (is_sorted key_cmp (D2 ++ R1))
-  turn-order = order R1 order1 (behind awaited) (above order1)
+  pub turn-order : T (is_sorted key_cmp (new_done ++ moved_rest))
+  turn-order = order moved_rest order1 (behind awaited) (above order1)
 
-  pub turn-awaits : T (await (ops_of lines) D2)
-  turn-awaits = await-next line.op (ops_of lines) D2 rises (up_to (run.sorted-head D1 R1 order1) (behind awaited))
+  pub turn-awaits : T (await (ops_of lines) new_done)
+  turn-awaits = await-next line.op (ops_of lines) new_done rises (up_to (run.sorted-head moved_done moved_rest order1) (behind awaited))
 
   pub turn-rises : T (rise (ops_of lines))
   turn-rises = rise-next line.op (ops_of lines) rises
 
-  pub turn-acts : (s : Layout) (n : Rows) → line.new_row ≡ row_if_new s line.op → entries n ≡ D0 ++ R0 → entries (act s given line.op n) ≡ D2 ++ R1
-  turn-acts s n p is = acts s n R1 p (is ∙ sym same) (behind awaited) (above order1)
+  pub turn-acts : (s : Layout) (n : Rows) → line.new_row ≡ row_if_new s line.op → entries n ≡ old_done ++ old_rest → entries (act s given line.op n) ≡ new_done ++ moved_rest
+  turn-acts s n p is = acts s n moved_rest p (is ∙ sym same) (behind awaited) (above order1)
 
-  pub turn : T (is_sorted key_cmp (D2 ++ R1)) × T (await (ops_of lines) D2) × T (rise (ops_of lines)) × ((s : Layout) (n : Rows) → line.new_row ≡ row_if_new s line.op → entries n ≡ D0 ++ R0 → entries (act s given line.op n) ≡ D2 ++ R1)
+  pub turn : T (is_sorted key_cmp (new_done ++ moved_rest)) × T (await (ops_of lines) new_done) × T (rise (ops_of lines)) × ((s : Layout) (n : Rows) → line.new_row ≡ row_if_new s line.op → entries n ≡ old_done ++ old_rest → entries (act s given line.op n) ≡ new_done ++ moved_rest)
   turn = (turn-order, turn-awaits, turn-rises, turn-acts)
 
 pub no-items : {X : Type 0} (xs : List X) → length xs ≡ 0 → xs ≡ []
