@@ -11,7 +11,7 @@ const GREATEST: i128 = 170141183460469231731687303715884105727;
 
 #[test]
 fn numbers_are_read_at_both_ends_of_their_kinds(rt: HostRuntime) -> Result<(), Fail> {
-    let cases: [(Kind, &[u8], Option<i128>); 21] = [
+    let cases: [(Kind, &[u8], Option<i128>); 25] = [
         (Kind::TinyInt, b"-128", Some(-128)),
         (Kind::TinyInt, b"127", Some(127)),
         (Kind::TinyInt, b"-129", None),
@@ -54,7 +54,11 @@ fn numbers_are_read_at_both_ends_of_their_kinds(rt: HostRuntime) -> Result<(), F
         (Kind::Int, b"-0", Some(0)),
         (Kind::Int, b"+007", Some(7)),
         (Kind::Int, b"+", None),
+        (Kind::TinyInt, b"", None),
+        (Kind::SmallInt, b"", None),
         (Kind::Int, b"", None),
+        (Kind::BigInt, b"", None),
+        (Kind::LargeInt, b"", None),
         (Kind::Int, b"1 ", None),
         (Kind::Int, b"-+1", None),
     ];

@@ -30,7 +30,7 @@ fn two_texts(alloc: Global) -> Result<Schema, Fail> {
 #[test]
 fn codes_of_one_column_read_back(rt: HostRuntime) -> Result<(), Fail> {
     let alloc = rt.alloc();
-    let cases: [(Kind, &[u8], Option<Value>); 14] = [
+    let cases: [(Kind, &[u8], Option<Value>); 16] = [
         (Kind::Boolean, b"\x01", Some(Value::Bool(true))),
         (Kind::Boolean, b"\x02", None),
         (Kind::TinyInt, b"\xff", Some(Value::Num(127))),
@@ -40,6 +40,7 @@ fn codes_of_one_column_read_back(rt: HostRuntime) -> Result<(), Fail> {
             b"\x00\x00\x00\x00",
             Some(Value::Num(-2147483648)),
         ),
+        (Kind::Int, b"\x7f\xff\xff\xff", Some(Value::Num(-1))),
         (Kind::Int, b"\x80\x00\x00\x00", Some(Value::Num(0))),
         (Kind::Int, b"\xff\xff\xff\xff", Some(Value::Num(2147483647))),
         (Kind::Int, b"\xff\xff\xff", None),
@@ -49,6 +50,7 @@ fn codes_of_one_column_read_back(rt: HostRuntime) -> Result<(), Fail> {
             b"\x7f\xff\xff\xff\xff\xff\xff\xff",
             Some(Value::Num(-1)),
         ),
+        (Kind::Date, b"\x80\x00\x00\x00", Some(Value::Day(0))),
         (Kind::Date, b"\x80\x0a\xfa\xa8", Some(Value::Day(719_528))),
         (Kind::Date, b"\x80\x37\xbb\x49", None),
         (Kind::Date, b"\x7f\xff\xff\xff", None),
@@ -112,6 +114,16 @@ fn a_text_before_another_ends_with_a_mark(rt: HostRuntime) -> Result<(), Fail> {
             Err(fault) => assert!(rt; fault == DecodeFault::NotAKey),
         }
     }
+    Ok(())
+}
+
+#[test]
+fn a_text_comes_before_one_that_goes_on(rt: HostRuntime) -> Result<(), Fail> {
+    let alloc = rt.alloc();
+    let schema = two_texts(alloc)?;
+    let low = decode(alloc, &schema, b"\x61\x00\x00\x00\x62")?;
+    let high = decode(alloc, &schema, b"\x61\x00\x01\x00\x00\x62")?;
+    assert!(rt; encode(alloc, &schema, &low)? < encode(alloc, &schema, &high)?);
     Ok(())
 }
 
