@@ -4,3 +4,4 @@ pub mod Joined
 pub mod WordFacts
 pub mod ReadFacts
 pub mod PageFacts
+pub mod SequenceFacts

@@ -3,6 +3,7 @@
 
 mod decode;
 mod faults;
+mod footer_reads;
 mod footer_writes;
 mod footers;
 mod marks;
