@@ -1,5 +1,5 @@
 -- The record of calls, read as deeds.
-use Rattle.std.proofs.Common.{◌≡◌, ℕ, zero, suc, ◌+◌, ◌≤◌, Bool, List, [], ◌∷◌, ◌++◌, length, take, drop, refl, sym, ◌∙◌, ap, arith, length-append, length-drop}
+use Rattle.std.proofs.Common.{◌≡◌, ℕ, suc, ◌+◌, ◌≤◌, Bool, List, [], ◌∷◌, ◌++◌, length, take, drop, refl, sym, ◌∙◌, ap, arith, length-drop}
 use Rattle.std.proofs.lemmas.List.{take_all, take-append-le, drop-append-le, drop_at, drop-drop}
 use Rattle.dev_memory.specs.Disk.{Deed, Wrote, Synced, Blanked, ChangedFiles, deeds, written}
 use Rattle.dev_memory.specs.declared.call.Call.{Call}

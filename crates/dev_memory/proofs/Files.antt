@@ -1,13 +1,15 @@
 -- Files that are adopted and forgotten.
-use Rattle.std.proofs.Common.{◌≡◌, ◌≢◌, ℕ, ◌+◌, ◌≤◌, nat_le, nat_lt, nat_eq, Bool, true, false, cond, ◌&&◌, ◌||◌, not, if◌then◌else◌, List, [], ◌∷◌, ◌++◌, map, Option, Some, None, refl, sym, ◌∙◌, ap, arith}
+use Rattle.std.proofs.Common.{◌≡◌, ◌≢◌, inl, inr, ℕ, zero, suc, ◌+◌, ◌≤◌, ◌<◌, length, get_or, set, take, drop, add-one, nat_le, nat_lt, nat_eq, Bool, true, false, cond, ◌&&◌, ◌||◌, not, if◌then◌else◌, List, [], ◌∷◌, ◌++◌, map, Option, Some, None, refl, sym, ◌∙◌, ap, arith}
 use Rattle.std.specs.Ordering.{nat_cmp, eq_by_cmp, is_eq}
-use Rattle.std.specs.List.{list_any, list_all}
+use Rattle.std.specs.List.{list_all}
 use Rattle.std.specs.declared.cmp.Ordering.{Ordering}
 use Rattle.std.specs.declared.cmp.Ordering.TheVariants.{Less, Equal, Greater}
 use Rattle.std.specs.FinMap.{FinMap, get, insert, retain_keys, from_entries, get-insert, get-retain_keys, get-from_entries, same_map, nat_cmp-IsAntisymmetric}
 use Rattle.std.specs.FinMap.Entries.{find, where_key, find-where_key}
 use Rattle.std.proofs.lemmas.Cmp.{nat_cmp_total, eq_by_cmp_equiv}
-use Rattle.std.proofs.lemmas.Bool.{and_parts, and_from}
+use Rattle.std.proofs.lemmas.Bool.{and_parts, and_from, cases_eq}
+use Rattle.std.proofs.Math.Seq.{drop-cons}
+use Rattle.std.proofs.lemmas.List.{take_all, drop_all, append-nil, length-map}
 use Rattle.std.proofs.lemmas.List.Folds.{list_all-append}
 use Rattle.std.proofs.lemmas.Bool.Decides.{nat_tests}
 use Rattle.dev_memory.specs.Disk.{never, stands_at, entries_at, is_in, closed, settled_by}
@@ -221,3 +223,70 @@ get-revived keep (e ∷ es) files q x out found = go (get-revived keep es files 
     go rest false kept false same =
         get-insert nat_cmp_total (revive keep es files) e.0 e.1 q ∙ ap (λ b. cond b (Some e.1) (get (revive keep es files) q)) same
         ∙ rest (ap (λ b. cond b (Some e.1) (find nat_cmp q es)) (sym same) ∙ found)
+
+-- The first file of a number.
+
+tie_eq : (q n : ℕ) → eq_by_cmp nat_cmp q n ≡ nat_eq n q
+tie_eq q n = elim (cases_eq n q) [
+  | inl same ↦ ap (λ k. eq_by_cmp nat_cmp q k) same ∙ ties q ∙ sym (same_eq n q same)
+  | inr other ↦ go (eq_by_cmp nat_cmp q n) refl other
+]
+  where
+    same_eq : (a b : ℕ) → a ≡ b → nat_eq a b ≡ true
+    same_eq a b is = grind (arith, nat_tests)
+
+    other_eq : (a b : ℕ) → (a ≡ b → ⊥) → nat_eq a b ≡ false
+    other_eq a b other = grind (arith, nat_tests)
+
+    go : (b : Bool) → eq_by_cmp nat_cmp q n ≡ b → (n ≡ q → ⊥) → eq_by_cmp nat_cmp q n ≡ nat_eq n q
+    go true is other = absurd (other (sym (tied q n is)))
+    go false is other = is ∙ sym (other_eq n q other)
+
+find_head : (q k : ℕ) (f : File) (files : List File) → (nat_eq f.number q && stands_at k f) ≡ true → find nat_cmp q (entries_at k (f ∷ files)) ≡ Some f.bytes
+find_head q k f files is =
+    let parts = and_parts (nat_eq f.number q) (stands_at k f) is in
+    ap (λ (b : Bool). find nat_cmp q (if b then (f.number, f.bytes) ∷ entries_at k files else entries_at k files)) parts.1
+    ∙ ap (λ (b : Bool). cond b (Some f.bytes) (find nat_cmp q (entries_at k files))) (tie_eq q f.number ∙ parts.0)
+
+find_skip : (q k : ℕ) (f : File) (files : List File) → (nat_eq f.number q && stands_at k f) ≡ false → find nat_cmp q (entries_at k (f ∷ files)) ≡ find nat_cmp q (entries_at k files)
+find_skip q k f files is = go (nat_eq f.number q) (tie_eq q f.number) (stands_at k f) is
+  where
+    go : (e : Bool) → eq_by_cmp nat_cmp q f.number ≡ e → (s : Bool) → (e && s) ≡ false → find nat_cmp q (if s then (f.number, f.bytes) ∷ entries_at k files else entries_at k files) ≡ find nat_cmp q (entries_at k files)
+    go true tie true both = absurd (no_truth both)
+    go false tie true both = ap (λ (b : Bool). cond b (Some f.bytes) (find nat_cmp q (entries_at k files))) tie
+    go true tie false both = refl
+    go false tie false both = refl
+
+pub find-here : (q k : ℕ) (files : List File) (i : ℕ) (d : File) → i < length files → (nat_eq (get_or files i d).number q && stands_at k (get_or files i d)) ≡ true → find nat_cmp q (entries_at k (drop i files)) ≡ Some (get_or files i d).bytes
+find-here q k files i d lt is = ap (λ (l : List File). find nat_cmp q (entries_at k l)) (drop-cons files i d lt) ∙ find_head q k (get_or files i d) (drop (suc i) files) is
+
+pub find-later : (q k : ℕ) (files : List File) (i : ℕ) (d : File) → i < length files → (nat_eq (get_or files i d).number q && stands_at k (get_or files i d)) ≡ false → find nat_cmp q (entries_at k (drop i files)) ≡ find nat_cmp q (entries_at k (drop (i + 1) files))
+find-later q k files i d lt is =
+    ap (λ (l : List File). find nat_cmp q (entries_at k l)) (drop-cons files i d lt) ∙ find_skip q k (get_or files i d) (drop (suc i) files) is
+    ∙ ap (λ (n : ℕ). find nat_cmp q (entries_at k (drop n files))) (sym (add-one i))
+
+-- A change of each file in turn.
+
+none_yet : (g : File → File) (xs : List File) → map g (take zero xs) ++ drop zero xs ≡ xs
+none_yet g [] = refl
+none_yet g (x ∷ xs) = refl
+
+pub changed-none : (g : File → File) (xs : List File) → xs ≡ map g (take 0 xs) ++ drop 0 xs
+changed-none g xs = sym (none_yet g xs)
+
+pub changed-step : (g : File → File) (xs : List File) (i : ℕ) (d : File) → i < length xs → set (map g (take i xs) ++ drop i xs) i (g (get_or (map g (take i xs) ++ drop i xs) i d)) ≡ map g (take (suc i) xs) ++ drop (suc i) xs
+changed-step g [] i d lt = absurd (omega (arith, lt))
+changed-step g (x ∷ xs) zero d lt = ap (λ (l : List File). g x ∷ l) (sym (none_yet g xs))
+changed-step g (x ∷ xs) (suc i) d lt = ap (λ (l : List File). g x ∷ l) (changed-step g xs i d (omega (arith, lt)))
+
+pub changed-all : (g : File → File) (xs : List File) (n : ℕ) → length xs ≤ n → map g (take n xs) ++ drop n xs ≡ map g xs
+changed-all g xs n le = (λ i. map g (take_all n xs le i) ++ drop_all n xs le i) ∙ append-nil (map g xs)
+
+-- a vector whose files were changed in turn
+pub whole-new : (g : File → File) (n : ℕ) (items now new : List File) → length items ≡ n → now ≡ items → new ≡ map g now → take n (new ++ drop (length new) items) ≡ map g items
+whole-new g n items now new counts is changed =
+    let size : length new ≡ length items = ap length changed ∙ length-map now g ∙ ap length is in
+    (λ i. take n (new ++ drop_all (length new) items (omega (arith, size)) i))
+    ∙ ap (λ (l : List File). take n l) (append-nil new)
+    ∙ take_all n new (omega (arith, size, counts))
+    ∙ changed ∙ ap (map g) is

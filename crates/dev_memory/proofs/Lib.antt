@@ -1,3 +1,8 @@
 mod Calls
 pub mod FileFacts
 mod Files
+mod Keeping
+mod Steps
+mod Growing
+mod Views
+mod Beginning

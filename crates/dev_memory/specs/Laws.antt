@@ -1,12 +1,12 @@
 -- The laws of the store in memory.
-use Rattle.std.specs.Prelude.{◌≡◌, ◌⊎◌, ℕ, zero, suc, ◌+◌, ◌≤◌, nat_le, Bool, true, false, if◌then◌else◌, List, [], ◌∷◌, ◌++◌, length, get_or, set, map, take, drop, Some}
+use Rattle.std.specs.Prelude.{◌≡◌, ◌⊎◌, ℕ, zero, suc, ◌+◌, ◌≤◌, nat_le, Bool, true, false, if◌then◌else◌, List, [], ◌∷◌, ◌++◌, length, set, map, take, drop, Some}
 use Rattle.std.proofs.Common.{inl, inr, ⊎_elim, refl, sym, ◌∙◌, ap, subst, arith, length-append}
 use Rattle.std.proofs.lemmas.List.{take_all, length-set, length-map, take_at, drop_at, length-take-le, length-drop, append_assoc}
 use Rattle.std.proofs.Math.ListN.{get_or-map}
 use Rattle.std.proofs.lemmas.Bool.{and_parts, leb-true}
 use Rattle.std.specs.FinMap.{from_entries}
 use Rattle.dev_traits.specs.Image.{Image, area_of, file, overwritten, Torn}
-use Rattle.dev_memory.specs.Disk.{Deed, Wrote, Synced, Blanked, ChangedFiles, AreaDisk, Disk, at_rest, area_in, area_disk, Reaches, IsImage, can_write, wrote, blanked, changed, after, replay, entries_at, Held, disk_now, disk_at, bytes_of, read_of, MightSince}
+use Rattle.dev_memory.specs.Disk.{Deed, Wrote, Synced, Blanked, ChangedFiles, AreaDisk, Disk, at_rest, area_in, area_disk, Reaches, IsImage, can_write, wrote, blanked, after, replay, entries_at, Held, disk_now, disk_at, bytes_of, read_of, MightSince}
 
 torn_same : (at n : ℕ) (bytes : List ℕ) → Torn at n bytes bytes
 torn_same at n bytes = record { before = refl; after = refl; no_shorter = omega arith; no_longer = omega arith }

@@ -1,9 +1,11 @@
 pub mod Areas
 pub mod Disk
 pub mod Inputs
+pub mod Kept
 pub mod Laws
 pub mod Maker
 pub mod Reader
 pub mod Sinks
+pub mod Store
 pub mod Strikes
 pub mod Told

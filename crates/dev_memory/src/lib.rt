@@ -4,18 +4,23 @@
 mod area;
 mod call;
 mod faults;
+mod image;
 mod inputs;
+mod kept;
 mod maker;
 mod reader;
 mod shared;
 mod sink;
+mod store;
 
 pub use faults::Faults;
+pub use image::Image;
 pub use inputs::{MemInputs, MemSource};
 pub use maker::{MemMaker, MemSealed};
 pub use reader::MemReader;
 pub use shared::SharedBytes;
 pub use sink::MemSink;
+pub use store::MemStore;
 
 #[cfg(test)]
 mod tests;

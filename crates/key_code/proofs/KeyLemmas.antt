@@ -1,10 +1,9 @@
 -- Codes of keys compare as the keys do.
 use Rattle.std.proofs.Common.{◌≡◌, ◌≤◌, ◌<◌, ℕ, zero, suc, ◌+◌, ◌-◌, ◌==◌, List, [], ◌∷◌, ◌++◌, Bool, true, false, if◌then◌else◌, Some, None, refl, sym, ap, ap₂, subst, ◌∙◌, arith, take, drop, get_or, length}
-use Rattle.std.specs.Prelude.{ℤ, pos, negsuc, slice_get, IsTrue, ◌&&◌, int_le}
+use Rattle.std.specs.Prelude.{ℤ, pos, negsuc, slice_get, ◌&&◌, int_le}
 use Rattle.std.specs.Cmp.Lexicographic.{slice_cmp}
 use Rattle.std.specs.Ordering.{nat_cmp, ordering_then}
-use Rattle.std.specs.declared.cmp.Ordering.TheVariants.{Equal}
-use Rattle.std.proofs.lemmas.Bool.{and_parts, leb-true}
+use Rattle.std.proofs.lemmas.Bool.{and_from, and_parts, leb-true}
 use Rattle.std.proofs.lemmas.Bool.Decides.{nat_tests}
 use Rattle.std.proofs.lemmas.List.{drop_all, drop_more, length-drop}
 use Rattle.fixed_code.specs.NumberCode.{FitsBytes, half}
@@ -18,6 +17,7 @@ use Rattle.pk_values.specs.Order.{key_cmp, value_cmp}
 use Rattle.pk_values.specs.OrderFacts.{key_exact}
 use Rattle.pk_values.specs.Schemas.{Layout, fits_key, schema_fault}
 use Rattle.pk_values.specs.SchemaFacts.{lawful_column}
+use Rattle.key_code.specs.Keys.{AreCells, AreOfKinds, HaveNoCells, IsKeyOf, IsNoKey}
 use Rattle.key_code.specs.Shapes.{HasCode, HaveCodes, IsDay, IsNumber, IsText, IsTruth}
 use Rattle.key_code.specs.KeyCode.{IsInOrder, IsOnlyCodeOf, cell_code, cells_code, day_code, key_code as code_of, no_more, numeric_code, text_code, truth_code}
 use Rattle.key_code.proofs.Parts.{FitOne, FitOneSchema, Part, cmp_key, cmp_part, flag, is_nil, key_code, number, part_code, text}
@@ -45,9 +45,9 @@ pub part_of : Kind → Value → Part
 part_of k v = part_in (width_of k) v
 
 -- two values of one kind are parts of one column, and compare as values
-record CellFacts (p q : Part) (a b : Value) : Type 0 where
-  fit : FitOne p q
-  order : cmp_part p q ≡ value_cmp a b
+pub record CellFacts (p q : Part) (a b : Value) : Type 0 where
+  pub fit : FitOne p q
+  pub order : cmp_part p q ≡ value_cmp a b
 
 flag_facts : (w : ℕ) (a b : Value) → IsTruth a → IsTruth b → CellFacts (part_in w a) (part_in w b) a b
 unfolding part_in
@@ -100,7 +100,7 @@ text_facts w (value.Text x) (value.Num y) f g = absurd g
 text_facts w (value.Text x) (value.Day y) f g = absurd g
 text_facts w (value.Text x) (value.Text y) f g = record { fit = tt; order = refl }
 
-facts : (k : Kind) (a b : Value) → HasCode k a → HasCode k b → CellFacts (part_of k a) (part_of k b) a b
+pub facts : (k : Kind) (a b : Value) → HasCode k a → HasCode k b → CellFacts (part_of k a) (part_of k b) a b
 unfolding part_of width_of
 facts kind.Boolean a b f g = flag_facts 1 a b f g
 facts kind.TinyInt a b f g = number_facts 1 a b (omega arith) (omega arith) f g
@@ -143,7 +143,7 @@ text_is w last (value.Num x) f = absurd f
 text_is w last (value.Day x) f = absurd f
 text_is w last (value.Text x) f = refl
 
-code_is : (last : Bool) (k : Kind) (a : Value) → HasCode k a → cell_code last k a ≡ part_code last (part_of k a)
+pub code_is : (last : Bool) (k : Kind) (a : Value) → HasCode k a → cell_code last k a ≡ part_code last (part_of k a)
 unfolding part_of width_of
 code_is last kind.Boolean a f = flag_is 1 last a f
 code_is last kind.TinyInt a f = number_is 1 last a f
@@ -257,7 +257,7 @@ has_code (kind.Varchar n) (value.Num z) e = cc
 has_code (kind.Varchar n) (value.Day z) e = cc
 
 -- no column of these takes NULL
-NoNulls : List Column → Type 0
+pub NoNulls : List Column → Type 0
 NoNulls [] = Unit {0}
 NoNulls (c ∷ cs) = (c.nullable ≡ false) × NoNulls cs
 
@@ -277,7 +277,7 @@ have_codes (c ∷ cs) (v ∷ vs) n e =
     let p = and_parts (fits c v) (fits_all cs vs) e in
     (cell_has_code c v n.0 p.0, have_codes cs vs n.1 p.1)
 
-no_nulls : (n : ℕ) (cs : List Column) → ((i : ℕ) (c : Column) → i < n → slice_get cs i ≡ Some c → c.nullable ≡ false) → NoNulls (take n cs)
+pub no_nulls : (n : ℕ) (cs : List Column) → ((i : ℕ) (c : Column) → i < n → slice_get cs i ≡ Some c → c.nullable ≡ false) → NoNulls (take n cs)
 unfolding NoNulls
 no_nulls zero cs h = tt
 no_nulls (suc n) [] h = tt
@@ -303,13 +303,13 @@ rest_fits (suc i) [] (v ∷ vs) f = absurd f
 rest_fits (suc i) (c ∷ cs) [] f = absurd f
 rest_fits (suc i) (c ∷ cs) (v ∷ vs) f = rest_fits i cs vs f.1
 
-last_is : (i n m : ℕ) → i < n → m ≡ n - (i + 1) → (m == 0) ≡ (i + 1 == n)
+pub last_is : (i n m : ℕ) → i < n → m ≡ n - (i + 1) → (m == 0) ≡ (i + 1 == n)
 last_is i n m lt e = grind (arith, nat_tests)
 
 suc_not_zero : (n : ℕ) → false ≡ (suc n == 0)
 suc_not_zero n = grind (arith, nat_tests)
 
-no_more_is : (cs : List Column) → no_more cs ≡ (length cs == 0)
+pub no_more_is : (cs : List Column) → no_more cs ≡ (length cs == 0)
 no_more_is [] = refl
 no_more_is (c ∷ cs) = suc_not_zero (length cs)
 
@@ -346,3 +346,82 @@ order_at s key code e lawful f = subst (λ (bs : List ℕ). IsInOrder s key bs) 
 
 pub only_at : (s : Layout) (key : List Value) (code : List ℕ) → code ≡ code_of s key → schema_fault s.columns s.keys ≡ None → fits_key s key ≡ true → IsOnlyCodeOf s key code
 only_at s key code e lawful f = subst (λ (bs : List ℕ). IsOnlyCodeOf s key bs) (sym e) (only_key s key lawful f)
+
+-- ---- what `decode` says
+
+-- only a text is a part that is a text
+pub IsTextPart : Part → Type 0
+IsTextPart (flag a) = ⊥
+IsTextPart (number w a) = ⊥
+IsTextPart (text a) = Unit {0}
+
+pub a_text : (t : List ℕ) → IsTextPart (text t)
+unfolding IsTextPart
+a_text t = tt
+
+pub text_part : (k : Kind) (v : Value) → IsTextPart (part_of k v) → IsText v
+unfolding IsTextPart part_of part_in
+text_part k value.Null x = absurd x
+text_part k (value.Bool b) x = absurd x
+text_part k (value.Num z) x = absurd x
+text_part k (value.Day d) x = absurd x
+text_part k (value.Text t) x = tt
+
+null_unfit : (k : Kind) → fits_kind k value.Null ≡ true → ⊥
+null_unfit kind.Boolean e = cc
+null_unfit kind.TinyInt e = cc
+null_unfit kind.SmallInt e = cc
+null_unfit kind.Int e = cc
+null_unfit kind.BigInt e = cc
+null_unfit kind.LargeInt e = cc
+null_unfit kind.Date e = cc
+null_unfit (kind.Varchar n) e = cc
+
+cell_fits : (c : Column) (v : Value) → fits_kind c.kind v ≡ true → fits c v ≡ true
+cell_fits c value.Null e = absurd (null_unfit c.kind e)
+cell_fits c (value.Bool b) e = e
+cell_fits c (value.Num z) e = e
+cell_fits c (value.Day d) e = e
+cell_fits c (value.Text t) e = e
+
+pub kinds_fit : (cs : List Column) (vs : List Value) → AreOfKinds cs vs → fits_all cs vs ≡ true
+kinds_fit [] [] f = refl
+kinds_fit [] (v ∷ vs) f = absurd f
+kinds_fit (c ∷ cs) [] f = absurd f
+kinds_fit (c ∷ cs) (v ∷ vs) f = and_from (fits c v) (fits_all cs vs) (cell_fits c v f.0) (kinds_fit cs vs f.1)
+
+cell_of_kind : (c : Column) (v : Value) → c.nullable ≡ false → fits c v ≡ true → fits_kind c.kind v ≡ true
+cell_of_kind c value.Null n e = cc
+cell_of_kind c (value.Bool b) n e = e
+cell_of_kind c (value.Num z) n e = e
+cell_of_kind c (value.Day d) n e = e
+cell_of_kind c (value.Text t) n e = e
+
+of_kinds : (cs : List Column) (vs : List Value) → NoNulls cs → fits_all cs vs ≡ true → AreOfKinds cs vs
+unfolding NoNulls
+of_kinds [] [] n e = tt
+of_kinds [] (v ∷ vs) n e = cc
+of_kinds (c ∷ cs) [] n e = cc
+of_kinds (c ∷ cs) (v ∷ vs) n e =
+    let p = and_parts (fits c v) (fits_all cs vs) e in
+    (cell_of_kind c v n.0 p.0, of_kinds cs vs n.1 p.1)
+
+key_nulls : (s : Layout) → schema_fault s.columns s.keys ≡ None → NoNulls (take s.keys s.columns)
+key_nulls s lawful = no_nulls s.keys s.columns (λ i c lt g. ((lawful_column s i c lawful g).key lt).0)
+
+same_columns : (s : Layout) (n : ℕ) (cs : List Column) → n ≡ s.keys → cs ≡ s.columns → take n cs ≡ take s.keys s.columns
+same_columns s n cs ne ce = ap (λ (k : ℕ). take k cs) ne ∙ ap (λ (xs : List Column). take s.keys xs) ce
+
+pub key_found : (s : Layout) (code : List ℕ) (n : ℕ) (cs : List Column) (cells : List Value) → n ≡ s.keys → cs ≡ s.columns → AreCells (take n cs) code cells → IsKeyOf s code cells
+key_found s code n cs cells ne ce h =
+    let g = subst (λ (xs : List Column). AreCells xs code cells) (same_columns s n cs ne ce) h in
+    (kinds_fit (take s.keys s.columns) cells g.0, g.1)
+
+pub key_only : (s : Layout) (code : List ℕ) (cells : List Value) → schema_fault s.columns s.keys ≡ None → IsKeyOf s code cells → IsOnlyCodeOf s cells code
+key_only s code cells lawful h other f e =
+    one_key (take s.keys s.columns) other cells (key_has_code s other lawful f) (key_has_code s cells lawful h.0) (e ∙ sym h.1)
+
+pub no_key : (s : Layout) (code : List ℕ) (n : ℕ) (cs : List Column) → n ≡ s.keys → cs ≡ s.columns → schema_fault s.columns s.keys ≡ None → HaveNoCells (take n cs) code → IsNoKey s code
+no_key s code n cs ne ce lawful none key f e =
+    let g = subst (λ (xs : List Column). HaveNoCells xs code) (same_columns s n cs ne ce) none in
+    g key (of_kinds (take s.keys s.columns) key (key_nulls s lawful) f, e)

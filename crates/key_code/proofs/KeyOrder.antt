@@ -124,7 +124,7 @@ reads_back (c ∷ rest) s = elim (cases_eq c 0) [
 
 -- ---- a key
 
-number_then : (w v : ℕ) (a b : ℤ) (s t : List ℕ) → w ≡ v → 1 ≤ w → w ≤ 16 → FitsBytes w a → FitsBytes w b
+pub number_then : (w v : ℕ) (a b : ℤ) (s t : List ℕ) → w ≡ v → 1 ≤ w → w ≤ 16 → FitsBytes w a → FitsBytes w b
     → slice_cmp nat_cmp (number_code w a ++ s) (number_code v b ++ t) ≡ ordering_then (int_cmp a b) (slice_cmp nat_cmp s t)
 number_then w v a b s t e low high f g =
     ap (λ (u : ℕ). slice_cmp nat_cmp (number_code w a ++ s) (number_code u b ++ t)) (sym e)
@@ -180,7 +180,7 @@ same_part (number w a) (text b) fit e = absurd fit
 same_part (text a) (flag b) fit e = absurd fit
 same_part (text a) (number v b) fit e = absurd fit
 
-then_parts : (a b : Ordering) → ordering_then a b ≡ Equal → (a ≡ Equal) × (b ≡ Equal)
+pub then_parts : (a b : Ordering) → ordering_then a b ≡ Equal → (a ≡ Equal) × (b ≡ Equal)
 then_parts Less b e = cc
 then_parts Equal b e = (refl, e)
 then_parts Greater b e = cc

@@ -1,3 +1,4 @@
 pub mod Parts
 pub mod KeyOrder
 pub mod KeyLemmas
+pub mod DecodeLemmas

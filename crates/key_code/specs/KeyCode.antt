@@ -61,4 +61,3 @@ IsInOrder s key code = (other : List Value) → IsTrue (fits_key s other) → sl
 -- no other key has this code
 abbrev pub IsOnlyCodeOf : Layout → List Value → List ℕ → Type 0
 IsOnlyCodeOf s key code = (other : List Value) → IsTrue (fits_key s other) → key_code s other ≡ code → other ≡ key
-

@@ -1,4 +1,6 @@
 pub mod Escapes
 pub mod Faults
 pub mod KeyCode
+pub mod Keys
+pub mod Reads
 pub mod Shapes

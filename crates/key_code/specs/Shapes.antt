@@ -1,5 +1,5 @@
 -- The values of each kind.
-use Rattle.std.specs.Prelude.{ℕ, ◌≤◌, pos, ◌≤ℤ◌, ⊤, List, [], ◌∷◌, length}
+use Rattle.std.specs.Prelude.{ℕ, ⊤, List, [], ◌∷◌}
 use Rattle.fixed_code.specs.NumberCode.{FitsBytes}
 use Rattle.pk_values.specs.declared.cells.Kind.{Kind}
 use Rattle.pk_values.specs.declared.cells.Kind.TheVariants as kind

@@ -1,4 +1,4 @@
-ghost use Rattle.std.specs.Prelude.{◌≡◌, ◌++◌, IfOk, OnOk, option_map, drop};
+ghost use Rattle.std.specs.Prelude.{◌≡◌, ◌++◌, ◌≤◌, length, IfOk, IfSome, OnOk, option_map, drop};
 ghost use Rattle.key_code.specs.Escapes.{escaped, unescaped};
 
 use std::alloc::{AllocError, Global};
@@ -13,14 +13,13 @@ pub fn push_escaped(out: &mut Vec<u8>, text: &[u8]) -> Result<(), AllocError>
             out.push(1)?;
         }
     }
-    out.push(0)?;
-    out.push(0)?;
-    Ok(())
+    out.extend_from_slice(&[0, 0])
 }
 
 /// The text at the front of the bytes and how many bytes it and its end mark take, if one stands there.
 pub fn read_escaped(alloc: Global, bytes: &[u8]) -> Result<Option<(Vec<u8>, usize)>, AllocError>
-    ensures { IfOk result (λ o. option_map (λ p. (p.0.items, drop p.1 bytes.now)) o ≡ unescaped bytes.now) }
+    ensures text { IfOk result (λ o. option_map (λ p. (p.0.items, drop p.1 bytes.now)) o ≡ unescaped bytes.now) }
+    ensures within { IfOk result (λ o. IfSome o (λ p. p.1 ≤ length bytes.now)) }
 {
     let mut text = Vec::new(alloc);
     let mut at = 0;

@@ -1,9 +1,14 @@
 //! Keys as bytes that compare as the keys do.
 #![tactic(auto)]
 
+mod decoding;
 mod encoding;
 mod escape;
 mod faults;
 
+pub use decoding::decode;
 pub use encoding::encode;
 pub use faults::{DecodeFault, KeyFault};
+
+#[cfg(test)]
+mod tests;

@@ -1,10 +1,6 @@
 -- What the cells of a line do to a row, one cell at a time.
-use Rattle.std.proofs.Common.{◌≡◌, refl, ℕ, suc, ◌<◌, ◌≤◌, ◌⊎◌, inl, inr, List, [], ◌∷◌, length, get_or, drop, slice_set, min, arith, add-one, ◌+◌}
-use Rattle.std.proofs.Math.Seq.{drop-cons}
-use Rattle.std.proofs.lemmas.List.{drop_all}
-use Rattle.std.proofs.lemmas.Bool.{cases_lt}
+use Rattle.std.proofs.Common.{◌≡◌, refl, ℕ, List, [], ◌∷◌, length, arith}
 use Rattle.pk_values.specs.declared.cells.Value.{Value}
-use Rattle.pk_values.specs.declared.cells.Value.TheVariants.{Null}
 use Rattle.pk_model.specs.Tables.{with_cells}
 
 with_cells-none : (given : List ℕ) (row : List Value) → with_cells given [] row ≡ row

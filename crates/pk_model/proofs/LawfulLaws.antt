@@ -1,5 +1,5 @@
 -- A lawful load leaves each row under its key.
-use Rattle.std.proofs.Common.{◌≡◌, refl, ap, sym, subst, ◌∙◌, ℕ, ◌+◌, ◌≤◌, ◌<◌, suc, zero, arith, List, [], ◌∷◌, ◌++◌, length, take, drop, map, slice_set, Option, Some, None, cond, unwrap_or, Bool as Truth, true, false, ◌&&◌, nat_le, nat_lt, IsTrue}
+use Rattle.std.proofs.Common.{◌≡◌, refl, ap, sym, ◌∙◌, ℕ, ◌+◌, ◌≤◌, suc, zero, arith, List, [], ◌∷◌, ◌++◌, length, take, drop, map, slice_set, Option, Some, None, cond, Bool as Truth, true, false, ◌&&◌, nat_le, nat_lt}
 use Rattle.std.specs.List.{list_all}
 use Rattle.std.specs.Ordering.{eq_by_cmp, is_eq}
 use Rattle.std.specs.FinMap.{get}
@@ -11,9 +11,8 @@ use Rattle.pk_values.specs.declared.cells.Value.{Value}
 use Rattle.pk_values.specs.declared.cells.Column.{Column}
 use Rattle.pk_model.specs.declared.calls.Op.{Op}
 use Rattle.pk_model.specs.declared.calls.Op.TheVariants.{Upsert, Delete}
-use Rattle.pk_model.specs.declared.calls.Load.{Load}
 use Rattle.pk_model.specs.Tables.{Rows, act, after_lines, key_named, with_cells, new_row, default_cell}
-use Rattle.pk_model.specs.Lawful.{rise_within, fits_line, fits_given, IsLawful}
+use Rattle.pk_model.specs.Lawful.{rise_within, fits_line, fits_given}
 use Rattle.pk_model.specs.Laws.{row_after, KeysStandFirst, LawfulKeepsKeys, DeletedThenNew}
 use Rattle.pk_model.proofs.LoadLaws.{get-act}
 use Rattle.pk_model.proofs.RunLaws.{equal}
@@ -39,11 +38,13 @@ take-cells : (n a b : ℕ) (given : List ℕ) (cells row : List Value) → n ≤
 take-cells n a b [] cells row l h = refl
 take-cells n a b (c ∷ given) [] row l h = refl
 take-cells n a b (c ∷ given) (v ∷ cells) row l h =
-    let more : (nat_lt c b && rise_within (c + 1) b given) ≡ true = second_true (nat_le a c) (nat_lt c b && rise_within (c + 1) b given) h in
-    let low : a ≤ c = leb-true a c (first_true (nat_le a c) (nat_lt c b && rise_within (c + 1) b given) h) in
+    let rest = rise_within (c + 1) b given in
+    let within : (nat_le a c && nat_lt c b) ≡ true = first_true (nat_le a c && nat_lt c b) rest h in
+    let more : rest ≡ true = second_true (nat_le a c && nat_lt c b) rest h in
+    let low : a ≤ c = leb-true a c (first_true (nat_le a c) (nat_lt c b) within) in
     let here : n ≤ c = omega arith in
     let later : n ≤ c + 1 = omega arith in
-    take-cells n (c + 1) b given cells (slice_set row c v) later (second_true (nat_lt c b) (rise_within (c + 1) b given) more) ∙ take-past n row c v here
+    take-cells n (c + 1) b given cells (slice_set row c v) later more ∙ take-past n row c v here
 
 -- the key of a new row
 take-new : (n : ℕ) (cs : List Column) (key : List Value) → fits_all (take n cs) key ≡ true → take n (key ++ map default_cell (drop n cs)) ≡ key

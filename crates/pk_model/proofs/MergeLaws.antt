@@ -1,12 +1,11 @@
 -- A merge: what one line does at the place that the merge has come to, and what a sort of the lines keeps.
-use Rattle.std.proofs.Common.{◌≡◌, refl, ap, sym, subst, ◌∙◌, ℕ, ◌+◌, ◌≤◌, ◌<◌, suc, zero, arith, List, [], ◌∷◌, ◌++◌, length, map, append_assoc, Option, Some, None, IfSome, IfNone, cond, not, unwrap_or, Bool as Truth, true, false, ◌&&◌, T, get_or, add-one}
+use Rattle.std.proofs.Common.{◌≡◌, refl, ap, sym, subst, ◌∙◌, ℕ, ◌+◌, ◌≤◌, ◌<◌, suc, arith, List, [], ◌∷◌, ◌++◌, length, append_assoc, Option, Some, None, IfSome, IfNone, cond, not, unwrap_or, Bool as Truth, true, false, ◌&&◌, T, get_or, add-one}
 use Rattle.std.specs.List.{filter}
-use Rattle.std.specs.List.Sorted.{IsSortedBy, IsStableBy, ties}
+use Rattle.std.specs.List.Sorted.{IsStableBy, ties}
 use Rattle.std.specs.Ordering.{eq_by_cmp, is_lt, is_le, is_eq, ordering_reverse}
 use Rattle.std.specs.declared.cmp.Ordering.{Ordering}
 use Rattle.std.specs.declared.cmp.Ordering.TheVariants.{Less, Equal, Greater}
 use Rattle.std.specs.Cmp.{tied_itself}
-use Rattle.std.specs.Vec.{vec_capacity}
 use Rattle.std.specs.FinMap.{entries, entries_sorted, entries-from_sorted, get, insert, remove, same_map, same_entries_map, from_sorted}
 use Rattle.std.specs.FinMap.Entries.{below_all, is_sorted}
 use Rattle.pk_values.specs.Order.{key_cmp}
@@ -85,7 +84,7 @@ module _ (given : List ℕ) (key : List Value) (old mid : List Pair) (r : Option
     upsert-settles s m after p is u a =
         let b = below (old_sorted after (subst (λ es. T (is_sorted key_cmp es)) is (entries_sorted m))) u in
         let same : with_cells given cells (unwrap_or (get m key) (new_row s key)) ≡ row =
-              (λ i. with_cells given cells (unwrap_or (looked m key old mid after r found kept b a is i) (sym p i))) ∙ sym wrote in
+        (λ i. with_cells given cells (unwrap_or (looked m key old mid after r found kept b a is i) (sym p i))) ∙ sym wrote in
         ap (λ w. entries (insert m key w)) same ∙ laid m key old mid after r found kept b a is row ∙ joined after
 
     pub upsert-order : KeepsOrder (Upsert key cells) old new
@@ -109,32 +108,32 @@ rise-next : (a : Op) (ops : List Op) → T (rise (a ∷ ops)) → T (rise ops)
 rise-next a [] h = tt
 rise-next a (b ∷ ops) h = run.second _ _ h
 
-module _ (given : List ℕ) (line : Line) (lines : List Line) (D0 R0 D1 R1 D2 : List Pair)
-    (same : D1 ++ R1 ≡ D0 ++ R0)
-    (behind : T (are_up_to (key_named line.op) D0) → T (are_up_to (key_named line.op) D1))
-    (above : T (is_sorted key_cmp (D1 ++ R1)) → T (below_all key_cmp (key_named line.op) R1))
-    (acts : Settles given line.op line.new_row D1 D2)
-    (order : KeepsOrder line.op D1 D2)
-    (up_to : StaysUpTo line.op D1 D2)
-    (in_order : T (is_sorted key_cmp (D0 ++ R0)))
-    (awaited : T (await (line.op ∷ ops_of lines) D0))
+module _ (given : List ℕ) (line : Line) (lines : List Line) (old_done old_rest moved_done moved_rest new_done : List Pair)
+    (same : moved_done ++ moved_rest ≡ old_done ++ old_rest)
+    (behind : T (are_up_to (key_named line.op) old_done) → T (are_up_to (key_named line.op) moved_done))
+    (above : T (is_sorted key_cmp (moved_done ++ moved_rest)) → T (below_all key_cmp (key_named line.op) moved_rest))
+    (acts : Settles given line.op line.new_row moved_done new_done)
+    (order : KeepsOrder line.op moved_done new_done)
+    (up_to : StaysUpTo line.op moved_done new_done)
+    (in_order : T (is_sorted key_cmp (old_done ++ old_rest)))
+    (awaited : T (await (line.op ∷ ops_of lines) old_done))
     (rises : T (rise (line.op ∷ ops_of lines))) where
-  order1 : T (is_sorted key_cmp (D1 ++ R1))
+  order1 : T (is_sorted key_cmp (moved_done ++ moved_rest))
   order1 = subst (λ es. T (is_sorted key_cmp es)) (sym same) in_order
 
-  pub turn-order : T (is_sorted key_cmp (D2 ++ R1))
-  turn-order = order R1 order1 (behind awaited) (above order1)
+  pub turn-order : T (is_sorted key_cmp (new_done ++ moved_rest))
+  turn-order = order moved_rest order1 (behind awaited) (above order1)
 
-  pub turn-awaits : T (await (ops_of lines) D2)
-  turn-awaits = await-next line.op (ops_of lines) D2 rises (up_to (run.sorted-head D1 R1 order1) (behind awaited))
+  pub turn-awaits : T (await (ops_of lines) new_done)
+  turn-awaits = await-next line.op (ops_of lines) new_done rises (up_to (run.sorted-head moved_done moved_rest order1) (behind awaited))
 
   pub turn-rises : T (rise (ops_of lines))
   turn-rises = rise-next line.op (ops_of lines) rises
 
-  pub turn-acts : (s : Layout) (n : Rows) → line.new_row ≡ row_if_new s line.op → entries n ≡ D0 ++ R0 → entries (act s given line.op n) ≡ D2 ++ R1
-  turn-acts s n p is = acts s n R1 p (is ∙ sym same) (behind awaited) (above order1)
+  pub turn-acts : (s : Layout) (n : Rows) → line.new_row ≡ row_if_new s line.op → entries n ≡ old_done ++ old_rest → entries (act s given line.op n) ≡ new_done ++ moved_rest
+  turn-acts s n p is = acts s n moved_rest p (is ∙ sym same) (behind awaited) (above order1)
 
-  pub turn : T (is_sorted key_cmp (D2 ++ R1)) × T (await (ops_of lines) D2) × T (rise (ops_of lines)) × ((s : Layout) (n : Rows) → line.new_row ≡ row_if_new s line.op → entries n ≡ D0 ++ R0 → entries (act s given line.op n) ≡ D2 ++ R1)
+  pub turn : T (is_sorted key_cmp (new_done ++ moved_rest)) × T (await (ops_of lines) new_done) × T (rise (ops_of lines)) × ((s : Layout) (n : Rows) → line.new_row ≡ row_if_new s line.op → entries n ≡ old_done ++ old_rest → entries (act s given line.op n) ≡ new_done ++ moved_rest)
   turn = (turn-order, turn-awaits, turn-rises, turn-acts)
 
 pub no-items : {X : Type 0} (xs : List X) → length xs ≡ 0 → xs ≡ []
@@ -171,8 +170,8 @@ rise-sorted (a ∷ []) h = tt
 rise-sorted (a ∷ b ∷ ops) h =
     run.both _ _ (not_after (key_named a) (key_named b) (h 0 a (omega arith) (omega arith)))
     (rise-sorted (b ∷ ops) (λ k d low high.
-        let later : before (get_or (b ∷ ops) (suc k) d) (get_or (b ∷ ops) k d) ≡ false = rw (add-one) at (h (suc k) d (omega arith) (omega arith)) in
-        rw (add-one) later))
+    let later : before (get_or (b ∷ ops) (suc k) d) (get_or (b ∷ ops) k d) ≡ false = rw (add-one) at (h (suc k) d (omega arith) (omega arith)) in
+    rw (add-one) later))
 
 tied : (q k : List Value) → (not (is_lt (key_cmp q k)) && not (is_lt (key_cmp k q))) ≡ eq_by_cmp key_cmp q k
 tied q k = ap (λ o. not (is_lt (key_cmp q k)) && not (is_lt o)) (key_total.antisymm k q) ∙ by (key_cmp q k)

@@ -1,5 +1,5 @@
 -- Lists of pairs in the order of their keys, cut at a key: what a look-up, an insertion and a removal do there.
-use Rattle.std.proofs.Common.{◌≡◌, refl, ap, sym, subst, ◌∙◌, List, [], ◌∷◌, ◌++◌, length, map, Option, Some, None, cond, not, Bool as Truth, true, false, ◌&&◌, T, ℕ, ◌+◌, zero, suc, arith, append_assoc, IfSome, IfNone}
+use Rattle.std.proofs.Common.{◌≡◌, refl, ap, sym, subst, ◌∙◌, List, [], ◌∷◌, ◌++◌, length, map, Option, Some, None, cond, Bool as Truth, true, false, ◌&&◌, T, ℕ, ◌+◌, zero, suc, arith, append_assoc, IfSome, IfNone}
 use Rattle.std.specs.List.{zip, slice_get}
 use Rattle.std.specs.Option.{option_to_list}
 use Rattle.std.proofs.lemmas.Option.{same_Some}
@@ -7,9 +7,9 @@ use Rattle.std.proofs.lemmas.List.{append-nil, length-append}
 use Rattle.std.specs.Ordering.{eq_by_cmp, is_lt, is_le, is_gt, is_eq, ordering_reverse}
 use Rattle.std.specs.declared.cmp.Ordering.{Ordering}
 use Rattle.std.specs.declared.cmp.Ordering.TheVariants.{Less, Equal, Greater}
-use Rattle.std.specs.Cmp.{tied_itself, alike_right, tied_back, eq_by_cmp_equiv}
-use Rattle.std.specs.FinMap.Entries.{find, put, by_order, below_all, is_sorted, where_key}
-use Rattle.std.specs.FinMap.{FinMap, entries, entries_sorted, entries-insert, entries-from_sorted, get, get-entries, get-insert, get-remove, get-from_sorted, insert, remove, same_map, same_entries_map, from_sorted, empty, get-empty, values, keys, len, len-entries}
+use Rattle.std.specs.Cmp.{tied_itself, alike_right}
+use Rattle.std.specs.FinMap.Entries.{find, put, by_order, below_all, is_sorted}
+use Rattle.std.specs.FinMap.{entries, entries_sorted, entries-insert, entries-from_sorted, get, get-entries, get-remove, get-from_sorted, insert, remove, same_map, from_sorted, empty, get-empty, values, keys, len, len-entries}
 use Rattle.pk_values.specs.Order.{key_cmp}
 use Rattle.pk_values.specs.OrderFacts.{key_total, key_exact}
 use Rattle.pk_values.specs.declared.cells.Value.{Value}

@@ -1,11 +1,11 @@
 -- Binary search among keys in order.
-use Rattle.std.proofs.Common.{◌≡◌, refl, ap, sym, subst, ◌∙◌, ℕ, ◌+◌, ◌≤◌, ◌<◌, suc, zero, arith, List, [], ◌∷◌, length, Option, Some, None, cond, Bool as Truth, true, false, ◌&&◌, T, get_or, add-one}
+use Rattle.std.proofs.Common.{◌≡◌, refl, ap, subst, ◌∙◌, ℕ, ◌+◌, ◌≤◌, ◌<◌, suc, zero, arith, List, [], ◌∷◌, length, Some, None, cond, false, T, get_or, add-one}
 use Rattle.std.specs.List.{zip}
 use Rattle.std.specs.List.Sorted.{IsBinarySearchResult}
 use Rattle.std.specs.Ordering.{eq_by_cmp, is_lt, is_eq, ordering_reverse}
 use Rattle.std.specs.declared.cmp.Ordering.{Ordering}
 use Rattle.std.specs.declared.cmp.Ordering.TheVariants.{Less, Equal, Greater}
-use Rattle.std.specs.Cmp.{tied_back, tied_itself, alike_right}
+use Rattle.std.specs.Cmp.{tied_back, alike_right}
 use Rattle.std.specs.FinMap.Entries.{find, below_all, is_sorted}
 use Rattle.std.proofs.lemmas.List.Sorted.{searchable_from_sorted}
 use Rattle.std.proofs.Common.{Err, inl, inr}

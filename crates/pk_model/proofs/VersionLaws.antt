@@ -1,5 +1,5 @@
 -- Which rows each version has after a call.
-use Rattle.std.proofs.Common.{◌≡◌, refl, ap, sym, subst, ◌∙◌, ℕ, ◌+◌, ◌-◌, ◌≤◌, ◌<◌, suc, zero, max, arith, List, [], ◌∷◌, ◌++◌, length, drop, Option, Some, None, cond, inl, inr, Bool as Truth, true, false, nat_lt, ◌==◌, if◌then◌else◌, append_assoc, add-one, Result, Ok, Err, OnOk, OnErr}
+use Rattle.std.proofs.Common.{◌≡◌, refl, ap, sym, subst, ◌∙◌, ℕ, ◌+◌, ◌-◌, ◌≤◌, ◌<◌, suc, zero, max, arith, List, [], ◌∷◌, ◌++◌, length, drop, Option, Some, None, inl, inr, Bool as Truth, true, false, nat_lt, if◌then◌else◌, Result, Ok, Err, OnOk, OnErr}
 use Rattle.std.specs.List.{slice_get}
 use Rattle.std.proofs.lemmas.Bool.{cases_lt}
 use Rattle.std.proofs.lemmas.List.{length-append}
@@ -45,15 +45,15 @@ length_dropped (suc n) (x ∷ xs) = length_dropped n xs ∙ omega arith
 -- a kept version by its place from the floor on
 kept : (b : Book) (v : ℕ) → b.floor ≤ v → rows_at b v ≡ slice_get (b.older ++ b.current ∷ []) (v - b.floor)
 kept b v l = elim (nat_lt v b.floor) as (λ t. nat_lt v b.floor ≡ t → (if t then None else slice_get (b.older ++ b.current ∷ []) (v - b.floor)) ≡ slice_get (b.older ++ b.current ∷ []) (v - b.floor)) [
-    | true ↦ λ e. absurd (omega (arith, ltb-true v b.floor e))
-    | false ↦ λ e. refl
-  ] refl
+  | true ↦ λ e. absurd (omega (arith, ltb-true v b.floor e))
+  | false ↦ λ e. refl
+] refl
 
 gone : (b : Book) (v : ℕ) → v < b.floor → rows_at b v ≡ None
 gone b v l = elim (nat_lt v b.floor) as (λ t. nat_lt v b.floor ≡ t → (if t then None else slice_get (b.older ++ b.current ∷ []) (v - b.floor)) ≡ None) [
-    | true ↦ λ e. refl
-    | false ↦ λ e. absurd (omega (arith, ltb-false v b.floor e))
-  ] refl
+  | true ↦ λ e. refl
+  | false ↦ λ e. absurd (omega (arith, ltb-false v b.floor e))
+] refl
 
 pub current-rows : CurrentRows
 current-rows b = kept b (version b) (omega arith) ∙ get-last b.older b.current [] (version b - b.floor) (omega arith)
@@ -66,11 +66,11 @@ new-version s b load =
 
 pub older-stay : OlderStay
 older-stay s b load v l = elim (cases_lt v b.floor) [
-    | inl below ↦ gone (publish s b load) v below ∙ sym (gone b v below)
-    | inr from ↦ kept (publish s b load) v from
-        ∙ get-before (b.older ++ b.current ∷ []) (after s load b.current ∷ []) (v - b.floor) (omega (arith, length-append b.older (b.current ∷ [])))
-        ∙ sym (kept b v from)
-  ]
+  | inl below ↦ gone (publish s b load) v below ∙ sym (gone b v below)
+  | inr from ↦ kept (publish s b load) v from
+      ∙ get-before (b.older ++ b.current ∷ []) (after s load b.current ∷ []) (v - b.floor) (omega (arith, length-append b.older (b.current ∷ [])))
+      ∙ sym (kept b v from)
+]
 
 end-leaves : (b : Book) (p : Option Plan) (v : ℕ) → rows_at (change_end b p) v ≡ rows_at b v
 end-leaves b None v = refl
@@ -82,9 +82,9 @@ end-leaves-rows b begun v = end-leaves b (plan_at b.plan begun) v
 -- an expiry that is not ahead of the current version
 expired : (b : Book) (f : ℕ) → f ≤ version b → change_expire b f ≡ record b { floor = max b.floor f; older = drop (f - b.floor) b.older }
 expired b f l = elim (nat_lt (version b) f) as (λ t. nat_lt (version b) f ≡ t → (if t then b else record b { floor = max b.floor f; older = drop (f - b.floor) b.older }) ≡ record b { floor = max b.floor f; older = drop (f - b.floor) b.older }) [
-    | true ↦ λ e. absurd (omega (arith, ltb-true (version b) f e))
-    | false ↦ λ e. refl
-  ] refl
+  | true ↦ λ e. absurd (omega (arith, ltb-true (version b) f e))
+  | false ↦ λ e. refl
+] refl
 
 below-floor : (b : Book) (g : ℕ) (o : Option Rows) (v : ℕ) → v < g → (if nat_lt v g then None else o) ≡ None
 below-floor b g o v l = elim (nat_lt v g) as (λ t. nat_lt v g ≡ t → (if t then None else o) ≡ None) [ true ↦ λ e. refl | false ↦ λ e. absurd (omega (arith, ltb-false v g e)) ] refl
@@ -112,12 +112,12 @@ expiry-drops b f v l =
 
 pub expiry-keeps-version : ExpiryKeepsVersion
 expiry-keeps-version b f = elim (cases_lt (version b) f) [
-    | inl ahead ↦ elim (nat_lt (version b) f) as (λ t. nat_lt (version b) f ≡ t → version (if t then b else record b { floor = max b.floor f; older = drop (f - b.floor) b.older }) ≡ version b) [
-      | true ↦ λ e. refl
-      | false ↦ λ e. absurd (omega (arith, ltb-false (version b) f e))
-    ] refl
-    | inr within ↦ ap version (expired b f within) ∙ omega (arith, length_dropped (f - b.floor) b.older)
-  ]
+  | inl ahead ↦ elim (nat_lt (version b) f) as (λ t. nat_lt (version b) f ≡ t → version (if t then b else record b { floor = max b.floor f; older = drop (f - b.floor) b.older }) ≡ version b) [
+    | true ↦ λ e. refl
+    | false ↦ λ e. absurd (omega (arith, ltb-false (version b) f e))
+  ] refl
+  | inr within ↦ ap version (expired b f within) ∙ omega (arith, length_dropped (f - b.floor) b.older)
+]
 
 -- a call makes at most one version more
 load-grows : (s : Layout) (b : Book) (load : Load) (t : Truth) → version (if t then b else publish s b load) ≤ version b + 1

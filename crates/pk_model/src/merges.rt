@@ -31,11 +31,7 @@ pub fn sorted(mut ops: Vec<Op>) -> Result<Vec<Op>, AllocError>
 }
 
 // Makes the new rows that lines may need.
-pub fn prepared(
-    alloc: Global,
-    schema: &Schema,
-    ops: Vec<Op>,
-) -> Result<VecDeque<Line>, AllocError>
+pub fn prepared(alloc: Global, schema: &Schema, ops: Vec<Op>) -> Result<VecDeque<Line>, AllocError>
     ensures prepared { IfOk result (λ lines. ArePrepared schema.now lines.items) }
     ensures ops { IfOk result (λ lines. ops_of lines.items ≡ ops.items) }
 {

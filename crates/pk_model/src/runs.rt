@@ -146,7 +146,11 @@ impl Rest {
         ensures up_to { IfSome result (λ pair. T (is_le (key_cmp pair.0 key.now))) }
         ensures past { IfNone result (begins_up_to key.now (unread self.new) ≡ false) }
     {
-        if self.begins_up_to(key) { self.pop() } else { None }
+        if self.begins_up_to(key) {
+            self.pop()
+        } else {
+            None
+        }
     }
 
     fn begins_up_to(&self, key: &Key) -> bool

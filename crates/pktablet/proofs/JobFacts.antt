@@ -1,5 +1,5 @@
 -- The report of one load and one scan from a new book.
-use Rattle.std.proofs.Common.{◌≡◌, refl, ap, sym, ◌∙◌, ℕ, List, [], ◌∷◌, ◌++◌, Option, Some, None, IsSomeAnd, Result, Ok, Err, IfOk, inl, inr, ◌⊎◌, arith, length}
+use Rattle.std.proofs.Common.{◌≡◌, refl, sym, ◌∙◌, ℕ, List, [], ◌∷◌, Option, Some, None, IsSomeAnd, Result, Ok, Err, IfOk, inl, inr, arith, length}
 use Rattle.std.specs.declared.cmp.Ordering.{Ordering}
 use Rattle.std.proofs.lemmas.List.{length-map}
 use Rattle.std.specs.FinMap as map
@@ -10,10 +10,9 @@ use Rattle.load_csv.specs.declared.loads.LoadFault.TheVariants as fault
 use Rattle.pk_model.specs.declared.calls.Load.{Load}
 use Rattle.pk_model.specs.declared.calls.Want.TheVariants.{Latest}
 use Rattle.pk_model.specs.declared.calls.Reply.TheVariants as reply
-use Rattle.pk_model.specs.Tables.{Rows, after}
+use Rattle.pk_model.specs.Tables.{after}
 use Rattle.pk_model.specs.Books.{new_book}
-use Rattle.dev_traits.specs.declared.faults.OutsideFault.TheVariants as outside
-use Rattle.pktablet.specs.Texts.{rows_text, report}
+use Rattle.pktablet.specs.Texts.{report}
 use Rattle.pktablet.specs.Reports.{Job, load_job, scan_job, Reports, IsReport, RowsOutcome, LoadOutcome, status_of}
 use Rattle.pktablet.specs.declared.jobs.Told.{Told}
 use Rattle.pktablet.specs.declared.outcomes.Outcome.{Outcome}
@@ -50,7 +49,7 @@ pub wanting : (s : Layout) (bytes : List ℕ) (l : Load) (o : Outcome) → load_
 wanting s bytes l o e scanned = record {
   replies = reply.Memory ∷ reply.Opened 0 ∷ [];
   in_order = (omega arith, refl, (omega arith, refl, tt));
-  legal = rw e (inr refl, (inl refl, tt));
+  legal = rw e (inr (tt, tt), (inl refl, tt));
   told = rw e (refl, (scanned, tt));
 }
 
@@ -58,7 +57,7 @@ wanting s bytes l o e scanned = record {
 refused_outcome : (f : LoadFault) (found : Option Load) → (f ≡ fault.Unbuilt → found ≡ None) → LoadOutcome found None (outcome.Load f)
 refused_outcome fault.Unbuilt None h = inl refl
 refused_outcome fault.Unbuilt (Some l) h = let e = h refl in cc
-refused_outcome fault.Memory None h = inr (inl refl)
+refused_outcome fault.Memory None h = inr refl
 refused_outcome fault.Memory (Some l) h = inl refl
 
 pub refused : (s : Layout) (bytes : List ℕ) (f : LoadFault) (o : Outcome) → (f ≡ fault.Unbuilt → load_of s bytes ≡ None) → RowsOutcome 0 map.empty o

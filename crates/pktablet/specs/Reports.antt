@@ -1,5 +1,5 @@
 -- What a run reports: the replies of one book to the jobs in the order of their turns.
-use Rattle.std.specs.Prelude.{◌≡◌, ℕ, ◌+◌, ◌-◌, ◌<◌, List, [], ◌∷◌, ◌++◌, length, Option, Some, None, option_map, option_and_then, find, slice_get, IsSomeAnd, IfSome, Bool as Truth, ◌==◌, ⊤, ◌⊎◌, if◌then◌else◌}
+use Rattle.std.specs.Prelude.{◌≡◌, ℕ, ◌+◌, ◌-◌, ◌<◌, List, [], ◌∷◌, Option, Some, None, option_map, option_and_then, find, slice_get, IsSomeAnd, Bool as Truth, ◌==◌, ⊤, ◌⊎◌, if◌then◌else◌}
 use Rattle.std.specs.List.{list_any}
 use Rattle.std.specs.FinMap as map
 use Rattle.dev_traits.specs.declared.faults.OutsideFault.TheVariants as outside
@@ -64,11 +64,11 @@ turns s jobs b place (item ∷ items) (r ∷ rs) =
 abbrev pub turn_of : ℕ → List Turn → Option Turn
 turn_of n ts = find (λ t. t.job == n) ts
 
--- a refused file has no turn, and a load without one wanted memory or was not run
+-- a refused file has no turn, and a load without one wanted memory before it
 abbrev pub LoadOutcome : Option Load → Option Turn → Outcome → Type 0
-LoadOutcome None None o = (o ≡ outcome.Load fault.Unbuilt) ⊎ (o ≡ outcome.Load fault.Memory) ⊎ (o ≡ outcome.NotRun)
+LoadOutcome None None o = (o ≡ outcome.Load fault.Unbuilt) ⊎ (o ≡ outcome.Load fault.Memory)
 LoadOutcome None (Some t) o = ⊥
-LoadOutcome (Some load) None o = (o ≡ outcome.Load fault.Memory) ⊎ (o ≡ outcome.Outside outside.Memory) ⊎ (o ≡ outcome.NotRun)
+LoadOutcome (Some load) None o = (o ≡ outcome.Load fault.Memory) ⊎ (o ≡ outcome.Outside outside.Memory)
 LoadOutcome (Some load) (Some t) o = o ≡ outcome.Turn t.reply
 
 -- the rows of a version, each as a report has it, or want of memory in reading them
@@ -79,8 +79,9 @@ abbrev pub ScanReply : Reply → Book → Outcome → Type 0
 ScanReply (reply.Opened v) b o = IsSomeAnd (rows_at b v) (λ m. RowsOutcome v m o)
 ScanReply r b o = o ≡ outcome.Turn r
 
+-- a scan has its turn
 abbrev pub ScanOutcome : Option Turn → Outcome → Type 0
-ScanOutcome None o = o ≡ outcome.NotRun
+ScanOutcome None o = ⊥
 ScanOutcome (Some t) o = ScanReply t.reply t.book o
 
 abbrev pub IsOutcome : Layout → List Turn → ℕ → Job → Outcome → Type 0

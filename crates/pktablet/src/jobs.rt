@@ -42,22 +42,21 @@ pub struct Told {
 }
 
 // The table of a load.
-fn table_of(alloc: Global, schema: &Schema, load: &Load) -> Result<Table, AllocError>
-    ensures { IfOk result (λ table. table ≡ after schema.now load.now map.empty) }
+fn table_of(alloc: Global, schema: &Schema, load: Load) -> Result<Table, AllocError>
+    ensures { IfOk result (λ table. table ≡ after schema.now load map.empty) }
 {
     let mut table = Table::new(alloc);
     table.apply(alloc, schema, load)?;
     Ok(table)
 }
 
-// The text of a table's rows and how many there are.
-fn rows_of(alloc: Global, table: &Table) -> Result<(u64, Vec<u8>), AllocError>
-    ensures { IfOk result (λ rows. (rows.0 ≡ map.len table.now) × (rows.1.items ≡ rows_text (map.values table.now))) }
+// The text of a table's rows.
+fn rows_of(alloc: Global, table: &Table) -> Result<Octets, AllocError>
+    ensures { IfOk result (λ text. text ≡ rows_text (map.values table.now)) }
 {
-    let rows = table.copy_rows(alloc)?;
     let mut text = Vec::new(alloc);
-    put_rows(&mut text, rows.as_slice())?;
-    Ok((rows.as_slice().len() as u64, text))
+    put_rows(&mut text, table.rows())?;
+    Ok(Octets::from_vec(text))
 }
 
 // What a scan of a version gives.
@@ -65,10 +64,10 @@ fn scan(alloc: Global, version: u64, table: &Table) -> Outcome
     ensures { RowsOutcome version table.now result }
 {
     match rows_of(alloc, table) {
-        Ok((count, text)) => Outcome::Rows {
+        Ok(text) => Outcome::Rows {
             version,
-            count,
-            text: Octets::from_vec(text),
+            count: table.len() as u64,
+            text,
         },
         Err(_) => Outcome::Outside(OutsideFault::Memory),
     }
@@ -79,7 +78,7 @@ fn load(alloc: Global, schema: &Schema, bytes: &[u8]) -> Loaded
     ensures { LoadedFrom schema.now bytes.now result }
 {
     match read_load(alloc, schema, bytes) {
-        Ok(load) => match table_of(alloc, schema, &load) {
+        Ok(load) => match table_of(alloc, schema, load) {
             Ok(table) => Loaded::Published(table),
             Err(_) => Loaded::Wanting,
         },
@@ -143,12 +142,7 @@ fn status_of(outcomes: &[Outcome]) -> u8
 }
 
 // The report of the outcomes of a load and a scan.
-fn tell(
-    alloc: Global,
-    order: &[Item],
-    first: Outcome,
-    last: Outcome,
-) -> Result<Told, AllocError>
+fn tell(alloc: Global, order: &[Item], first: Outcome, last: Outcome) -> Result<Told, AllocError>
     ensures text { IfOk result (λ told. told.text.items ≡ report order.now (first ∷ last ∷ [])) }
     ensures status { IfOk result (λ told. told.status ≡ status_of (first ∷ last ∷ [])) }
 {

@@ -13,11 +13,10 @@ use causes::{Cause, Ended};
 use dev_host::{HostInputs, HostSink};
 use runs::run;
 use std::alloc::Global;
-use std::env;
 use std::env::Env;
-use std::io;
 use std::io::ErrorKind;
 use std::process::ExitCode;
+use std::{env, io};
 
 #[cfg(test)]
 mod tests;

@@ -11,12 +11,12 @@ pub push_cell-requires : goal.push_cell-requires
 push_cell-requires c =
     let lt = c.loop-i-test.true in
     (cell_at c.args.columns.now c.args.key.now c.loop-i.i (get_or c.args.columns.now c.loop-i.i c.index-columns-i.result) c.index-key-i.result c.requires.fits lt
-      (get_or_default c.args.columns.now c.loop-i.i c.index-columns-i.result _ lt) c.index-key-i.is).0
+    (get_or_default c.args.columns.now c.loop-i.i c.index-columns-i.result _ lt) c.index-key-i.is).0
 
 pub loop-i-preserved : goal.loop-i-preserved
 loop-i-preserved c =
     let lt = c.loop-i-test.true in
     let step = (cell_at c.args.columns.now c.args.key.now c.loop-i.i (get_or c.args.columns.now c.loop-i.i c.index-columns-i.result) c.index-key-i.result c.requires.fits lt
-      (get_or_default c.args.columns.now c.loop-i.i c.index-columns-i.result _ lt) c.index-key-i.is).1 in
+    (get_or_default c.args.columns.now c.loop-i.i c.index-columns-i.result _ lt) c.index-key-i.is).1 in
     let rest = cells_code (drop (c.loop-i.i + 1) c.args.columns.now) (drop (c.loop-i.i + 1) c.args.key.now) in
     ap (λ (bs : List ℕ). bs ++ rest) c.in_ok-push_cell.ensures ∙ append_assoc c.loop-i.out.items _ rest ∙ ap (λ (bs : List ℕ). c.loop-i.out.items ++ bs) (sym step) ∙ c.loop-i.invariant

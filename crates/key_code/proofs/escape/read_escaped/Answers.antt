@@ -4,12 +4,12 @@ use Rattle.key_code.proofs.KeyOrder.{read_bad, read_end, read_other, read_short,
 use Rattle.key_code.proofs.escape.read_escaped.Goals as goal
 use Rattle.key_code.proofs.escape.read_escaped.Goals.{then-c-eq0+else-d-eq0+else-d-ne1, else-c-eq0}
 
-pub returns-then-d-eq0 : goal.returns-then-d-eq0
-returns-then-d-eq0 c =
+pub returns-then-d-eq0-clause-text : goal.returns-then-d-eq0-clause-text
+returns-then-d-eq0-clause-text c =
     read_end c.loop-at.text.items c.args.bytes.now c.loop-at.at _ _ (unescaped c.args.bytes.now) c.loop-at-test.true refl refl c.if-c-eq0.true c.if-d-eq0.true c.loop-at.invariant.rest_read
 
-pub returns-then-d-ne1 : goal.returns-then-d-ne1
-returns-then-d-ne1 c =
+pub returns-then-d-ne1-clause-text : goal.returns-then-d-ne1-clause-text
+returns-then-d-ne1-clause-text c =
     read_bad c.loop-at.text.items c.args.bytes.now c.loop-at.at _ _ (unescaped c.args.bytes.now) c.loop-at-test.true refl refl c.if-c-eq0.true c.if-d-eq0.false c.if-d-ne1.true c.loop-at.invariant.rest_read
 
 pub loop-at-preserved : goal.loop-at-preserved
@@ -27,5 +27,5 @@ loop-at-preserved c =
       }
     ]
 
-pub returns : goal.returns
-returns c = read_short c.loop-at.text.items c.args.bytes.now c.loop-at.at (unescaped c.args.bytes.now) c.loop-at-test.false c.loop-at.invariant.rest_read
+pub returns-clause-text : goal.returns-clause-text
+returns-clause-text c = read_short c.loop-at.text.items c.args.bytes.now c.loop-at.at (unescaped c.args.bytes.now) c.loop-at-test.false c.loop-at.invariant.rest_read

@@ -1,4 +1,4 @@
-use Rattle.std.proofs.Common.{◌≡◌, sym, ◌∙◌}
+use Rattle.std.proofs.Common.{sym, ◌∙◌}
 use Rattle.std.proofs.lemmas.Option.{MatchOption-at_none}
 use Rattle.pk_model.proofs.CellLaws.{with_cells-none_left}
 use Rattle.pk_model.proofs.lines.write_cells.Goals as goal

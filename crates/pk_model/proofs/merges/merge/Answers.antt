@@ -18,7 +18,7 @@ loop-line-init c =
       in_order = subst (λ es. T (is_sorted key_cmp es)) (sym is) c.requires.in_order;
       lines_rise = c.requires.lines_rise;
       awaited = subst (λ es. T (await (ops_of c.args.lines.items) es)) (sym c.requires.empty) (merge.await-none (ops_of c.args.lines.items));
-      room = subst (λ es. HasRoom c.args.done (length es + length c.args.lines.items)) (sym c.from_run-rest.ensures) c.requires.room
+      room = subst (λ es. HasRoom c.args.done (length es + length c.args.lines.items)) (sym c.from_run-rest.ensures) c.requires.room;
     }
 
 pub settle-requires : goal.settle-requires
@@ -33,27 +33,27 @@ loop-line-preserved c =
     let line = c.in-Some.line in
     let lines = c.pop_front.new.self.items in
     let split : c.loop-line.lines.items ≡ line ∷ lines = c.in-Some.ensures.items in
-    let D0 = written c.loop-line.done in
-    let D1 = written c.advance.new.self in
-    let R1 = unread c.advance.new.rest in
-    let behind = subst (λ k. T (are_up_to k D0) → T (are_up_to k D1)) c.key.ensures c.advance.ensures.behind in
-    let stops = subst (λ k. begins_up_to k R1 ≡ false) c.key.ensures c.advance.ensures.stops in
-    let turn = merge.turn given line lines D0 (unread c.loop-line.rest) D1 R1 (written c.settle.new.done)
-          c.advance.ensures.same behind (λ h. run.past (key_named line.op) R1 (run.sorted-tail D1 R1 h) stops)
-          c.settle.ensures.acts c.settle.ensures.in_order c.settle.ensures.up_to c.loop-line.invariant.in_order
-          (subst (λ ls. T (await (ops_of ls) D0)) split c.loop-line.invariant.awaited)
-          (subst (λ ls. T (rise (ops_of ls))) split c.loop-line.invariant.lines_rise) in
+    let old_done = written c.loop-line.done in
+    let moved_done = written c.advance.new.self in
+    let moved_rest = unread c.advance.new.rest in
+    let behind = subst (λ k. T (are_up_to k old_done) → T (are_up_to k moved_done)) c.key.ensures c.advance.ensures.behind in
+    let stops = subst (λ k. begins_up_to k moved_rest ≡ false) c.key.ensures c.advance.ensures.stops in
+    let turn = merge.turn given line lines old_done (unread c.loop-line.rest) moved_done moved_rest (written c.settle.new.done)
+    c.advance.ensures.same behind (λ h. run.past (key_named line.op) moved_rest (run.sorted-tail moved_done moved_rest h) stops)
+    c.settle.ensures.acts c.settle.ensures.in_order c.settle.ensures.up_to c.loop-line.invariant.in_order
+    (subst (λ ls. T (await (ops_of ls) old_done)) split c.loop-line.invariant.awaited)
+    (subst (λ ls. T (rise (ops_of ls))) split c.loop-line.invariant.lines_rise) in
     let count : length c.loop-line.lines.items ≡ suc (length lines) = ap length split in
-    let enough : length R1 + length lines + 1 ≤ length R1 + length c.loop-line.lines.items = omega arith in
+    let enough : length moved_rest + length lines + 1 ≤ length moved_rest + length c.loop-line.lines.items = omega arith in
     record {
       merged = λ s m e p.
-        let h = c.loop-line.invariant.merged s m e p in
-        let ready : ArePrepared s (line ∷ lines) = subst (ArePrepared s) split h.2 in
-        (act s given line.op h.0, turn.3 s h.0 ready.0 h.1, ready.1, ap (λ ls. after_lines s given (ops_of ls) h.0) (sym split) ∙ h.3);
+          let h = c.loop-line.invariant.merged s m e p in
+          let ready : ArePrepared s (line ∷ lines) = subst (ArePrepared s) split h.2 in
+          (act s given line.op h.0, turn.3 s h.0 ready.0 h.1, ready.1, ap (λ ls. after_lines s given (ops_of ls) h.0) (sym split) ∙ h.3);
       in_order = turn.0;
       lines_rise = turn.2;
       awaited = turn.1;
-      room = c.settle.ensures.room (length R1 + length lines) (merge.room-less c.advance.new.self _ _ enough (c.advance.ensures.room (length c.loop-line.lines.items) c.loop-line.invariant.room))
+      room = c.settle.ensures.room (length moved_rest + length lines) (merge.room-less c.advance.new.self _ _ enough (c.advance.ensures.room (length c.loop-line.lines.items) c.loop-line.invariant.room));
     }
 
 pub returns : goal.returns

@@ -1,4 +1,4 @@
-use Rattle.std.proofs.Common.{◌≡◌, ◌++◌, ◌+◌, ℕ, length, T}
+use Rattle.std.proofs.Common.{◌≡◌, ◌++◌, ◌+◌, length, T}
 use Rattle.std.specs.FinMap.{entries}
 use Rattle.std.specs.FinMap.Entries.{is_sorted}
 use Rattle.pk_values.specs.Order.{key_cmp}
@@ -16,7 +16,7 @@ invariant-loop-line l = record {
   in_order : T (is_sorted key_cmp (written l.done ++ unread l.rest));
   lines_rise : T (rise (ops_of l.lines.items));
   awaited : T (await (ops_of l.lines.items) (written l.done));
-  room : HasRoom l.done (length (unread l.rest) + length l.lines.items)
+  room : HasRoom l.done (length (unread l.rest) + length l.lines.items);
 }
 
 abbrev pub decreases-loop-line : goal.decreases-loop-line

@@ -5,5 +5,5 @@ use Rattle.pk_model.proofs.merges.prepared.Given as goal
 abbrev pub invariant-loop-op : goal.invariant-loop-op
 invariant-loop-op l = record {
   prepared : ArePrepared l.schema l.lines.items;
-  ops : ops_of l.lines.items ≡ l.yielded
+  ops : ops_of l.lines.items ≡ l.yielded;
 }

@@ -1,7 +1,6 @@
-use Rattle.std.proofs.Common.{◌≡◌, ◌+◌, subst, sym, ap, ◌∙◌, arith, List, ℕ, unwrap_or}
-use Rattle.pk_model.specs.declared.calls.Op.{Op}
+use Rattle.std.proofs.Common.{◌+◌, subst, sym, ap, ◌∙◌, arith}
 use Rattle.pk_model.specs.Tables.{with_cells}
-use Rattle.pk_model.specs.Runs.{written, HasRoom}
+use Rattle.pk_model.specs.Runs.{written}
 use Rattle.pk_model.specs.Merges.{Settles, KeepsOrder, StaysUpTo}
 use Rattle.pk_model.proofs.MergeLaws as merge
 use Rattle.pk_model.proofs.merges.settle.Goals as goal

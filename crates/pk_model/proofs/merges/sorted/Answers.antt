@@ -1,5 +1,4 @@
 use Rattle.std.proofs.Common.{rules}
-use Rattle.std.specs.Ordering.{is_lt}
 use Rattle.std.proofs.lemmas.List.Sorted.{ranks_by, answers_always}
 use Rattle.pk_values.specs.OrderFacts.{key_total}
 use Rattle.pk_model.specs.Tables.{key_named}

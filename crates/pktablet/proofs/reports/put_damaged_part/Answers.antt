@@ -1,4 +1,4 @@
-use Rattle.std.proofs.Common.{◌≡◌, ◌∙◌, ap, sym, List, ℕ, ◌++◌, append_assoc, OnOk, Result, Ok, Err, codes, decimal}
+use Rattle.std.proofs.Common.{◌≡◌, ◌∙◌, ap, List, ℕ, ◌++◌, append_assoc, OnOk, Result, Ok, Err, codes, decimal}
 use Rattle.pktablet.specs.Texts.{place_text}
 use Rattle.pktablet.proofs.reports.put_damaged_part.Goals as goal
 

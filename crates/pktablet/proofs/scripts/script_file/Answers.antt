@@ -1,4 +1,4 @@
-use Rattle.std.proofs.Common.{refl, inl, inr, ◌≢◌, [], ◌≡◌, ap, length, arith, List, ℕ, ◌++◌}
+use Rattle.std.proofs.Common.{refl, inr, ◌≢◌, [], ◌≡◌, ap, length, arith, List, ℕ, ◌++◌}
 use Rattle.pktablet.specs.Scripts.{IsUnbuilt, LoadsFirst, scan_line}
 use Rattle.pktablet.proofs.scripts.script_file.Goals as goal
 

@@ -1,4 +1,4 @@
-use Rattle.std.proofs.Common.{◌≡◌, sym, ◌∙◌}
+use Rattle.std.proofs.Common.{sym, ◌∙◌}
 use Rattle.pk_model.proofs.RunLaws.{none-left}
 use Rattle.pk_model.proofs.runs.Rest.next_up_to.Goals as goal
 

@@ -1,5 +1,5 @@
-use Rattle.std.proofs.Common.{◌≡◌, sym, ◌∙◌, ap, subst, length, List, ◌++◌, ◌∷◌, [], ◌+◌, arith, append_assoc, T}
-use Rattle.pk_model.specs.Runs.{written, unread, HasRoom, are_up_to}
+use Rattle.std.proofs.Common.{◌≡◌, sym, ◌∙◌, subst, length, ◌∷◌, ◌+◌, T}
+use Rattle.pk_model.specs.Runs.{unread, HasRoom, are_up_to}
 use Rattle.pk_model.proofs.RunLaws.{moved-one, room-more, up_to-append}
 use Rattle.pk_model.proofs.runs.Run.advance.Goals as goal
 
@@ -9,7 +9,7 @@ loop-key-preserved c =
     record {
       same = moved-one _ _ _ _ _ c.push.ensures.pairs left ∙ c.loop-key.invariant.same;
       behind = λ u. subst (λ es. T (are_up_to c.args.key.now es)) (sym c.push.ensures.pairs) (up_to-append c.args.key.now _ _ (c.loop-key.invariant.behind u) c.in-Some.ensures.up_to);
-      room = λ n h. c.push.ensures.room (length (unread c.next_up_to.new.self) + n) (room-more c.loop-key.self _ _ _ n left (c.loop-key.invariant.room n h))
+      room = λ n h. c.push.ensures.room (length (unread c.next_up_to.new.self) + n) (room-more c.loop-key.self _ _ _ n left (c.loop-key.invariant.room n h));
     }
 
 pub returns-clause-room : goal.returns-clause-room

@@ -6,7 +6,7 @@ abbrev pub invariant-loop-key : goal.invariant-loop-key
 invariant-loop-key l = record {
   same : written l.self ++ unread l.rest ≡ written l.fn.self ++ unread l.fn.rest;
   behind : T (are_up_to l.fn.key (written l.fn.self)) → T (are_up_to l.fn.key (written l.self));
-  room : (n : ℕ) → HasRoom l.fn.self (length (unread l.fn.rest) + n) → HasRoom l.self (length (unread l.rest) + n)
+  room : (n : ℕ) → HasRoom l.fn.self (length (unread l.fn.rest) + n) → HasRoom l.self (length (unread l.rest) + n);
 }
 
 abbrev pub decreases-loop-key : goal.decreases-loop-key

@@ -1,4 +1,4 @@
-use Rattle.std.proofs.Common.{◌≡◌, sym, ◌∙◌}
+use Rattle.std.proofs.Common.{sym, ◌∙◌}
 use Rattle.pk_model.proofs.RunLaws.{length-zip_even}
 use Rattle.pk_model.proofs.runs.Run.len.Goals as goal
 

@@ -1,4 +1,4 @@
-use Rattle.std.proofs.Common.{◌≡◌, ap, ◌∙◌, List}
+use Rattle.std.proofs.Common.{◌∙◌}
 use Rattle.std.specs.List.{zip}
 use Rattle.pk_model.proofs.RunLaws.{zip-push}
 use Rattle.pk_model.proofs.runs.Run.push.Goals as goal

@@ -1,4 +1,4 @@
-use Rattle.std.proofs.Common.{◌≡◌, sym, ◌∙◌, ap}
+use Rattle.std.proofs.Common.{sym, ◌∙◌}
 use Rattle.std.proofs.lemmas.Option.{MatchOption-at_none}
 use Rattle.pk_model.proofs.RunLaws.{below-unless_last, taken, taken-below}
 use Rattle.pk_model.proofs.runs.Run.take.Goals as goal

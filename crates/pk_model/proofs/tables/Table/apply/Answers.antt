@@ -1,4 +1,4 @@
-use Rattle.std.proofs.Common.{◌≡◌, ap, sym, subst, ◌∙◌, length, arith}
+use Rattle.std.proofs.Common.{◌≡◌, ap, sym, ◌∙◌, arith}
 use Rattle.std.specs.FinMap.{entries, from_sorted, entries-from_sorted}
 use Rattle.pk_values.specs.Order.{key_cmp}
 use Rattle.pk_model.specs.Tables.{Rows, after, after_lines}
@@ -22,9 +22,9 @@ merged c =
     let m : Rows = from_sorted {R = key_cmp} (written c.self.inside.run) in
     let ops = c.in_ok-lines.ensures.ops in
     let whole : after s c.args.load c.args.self.now ≡ after_lines s given (ops_of c.in_ok-lines.lines.items) m =
-          (λ i. after_lines s given (sym c.into_vec.ensures i) (sym c.self.view_is i))
-          ∙ sym (c.in_ok-ops.ensures.same s given m)
-          ∙ ap (λ ops. after_lines s given ops m) (sym ops) in
+    (λ i. after_lines s given (sym c.into_vec.ensures i) (sym c.self.view_is i))
+    ∙ sym (c.in_ok-ops.ensures.same s given m)
+    ∙ ap (λ ops. after_lines s given ops m) (sym ops) in
     ap entries whole
     ∙ ap (λ g. entries (after_lines s g (ops_of c.in_ok-lines.lines.items) m)) (sym c.as_slice.ensures)
     ∙ c.merge.ensures s m (entries-from_sorted key_cmp (written c.self.inside.run) c.self.invariant ∙ ap written (sym c.replace-rows.ensures.value)) c.in_ok-lines.ensures.prepared
