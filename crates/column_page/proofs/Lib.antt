@@ -5,3 +5,4 @@ pub mod WordFacts
 pub mod ReadFacts
 pub mod PageFacts
 pub mod SequenceFacts
+pub mod FooterFacts

@@ -37,7 +37,7 @@ returns-in_err-least-clause-none c =
 
 pub returns-in_err-greatest-clause-none : goal.returns-in_err-greatest-clause-none
 returns-in_err-greatest-clause-none c =
-    let p = err_from_is_err_and c.from_residual.result c.from_residual.ensures.1 in
+    let p = err_from_is_err_and c.from_residual-in_err-greatest.result c.from_residual-in_err-greatest.ensures.1 in
     rw p.1 (λ t rest fit e.
     let bytes = c.args.bytes.now in
     let least = c.in_ok-least.ensures.some in

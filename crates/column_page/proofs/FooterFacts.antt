@@ -1,0 +1,49 @@
+-- A block and a footer, read as what they are made of.
+use Rattle.std.proofs.Common.{◌≡◌, ℕ, ◌+◌, ◌<◌, ◌≤◌, ◌^◌, List, [], ◌∷◌, ◌++◌, length, take, drop, refl, sym, ap, ◌∙◌, append_assoc, subst}
+use Rattle.std.specs.Prelude.{All}
+use Rattle.std.specs.List.{flat_map}
+use Rattle.std.proofs.lemmas.List.{drop-drop}
+use Rattle.column_page.specs.declared.footers.BlockMark.{BlockMark}
+use Rattle.column_page.specs.Footers.{block_bytes, mark_bytes, u32_bytes, u64_bytes}
+use Rattle.column_page.specs.FooterReading.{BlockFits}
+use Rattle.column_page.proofs.SequenceFacts.{u32_step, u64_step}
+
+pub regroup : (a b c d e : List ℕ) → (a ++ (b ++ (c ++ d))) ++ e ≡ a ++ (b ++ (c ++ (d ++ e)))
+regroup a b c d e = simp append_assoc
+
+-- what follows the bytes that were read from a piece
+pub piece_more : (at w : ℕ) (bytes piece next tail : List ℕ) → piece ≡ drop at bytes → next ≡ drop (at + w) bytes → drop w piece ≡ tail → next ≡ tail
+piece_more at w bytes piece next tail e f g = f ∙ sym (drop-drop w at bytes) ∙ ap (drop w) (sym e) ∙ g
+
+abbrev pub after_rows : BlockMark → List ℕ → List ℕ
+after_rows b rest = flat_map mark_bytes b.marks ++ rest
+
+abbrev pub after_length : BlockMark → List ℕ → List ℕ
+after_length b rest = u32_bytes b.rows ++ after_rows b rest
+
+abbrev pub after_place : BlockMark → List ℕ → List ℕ
+after_place b rest = u32_bytes b.length ++ after_length b rest
+
+pub block_open : (b : BlockMark) (rest bytes : List ℕ) → block_bytes b ++ rest ≡ bytes → u64_bytes b.place ++ after_place b rest ≡ bytes
+block_open b rest bytes e = sym (regroup (u64_bytes b.place) (u32_bytes b.length) (u32_bytes b.rows) (flat_map mark_bytes b.marks) rest) ∙ e
+
+-- the place is told, and the length stands behind it
+pub place_told : (columns place : ℕ) (bytes p8 : List ℕ) (b : BlockMark) (rest : List ℕ) → BlockFits columns b → block_bytes b ++ rest ≡ bytes → place < 2 ^ 64 → take 8 bytes ≡ u64_bytes place → p8 ≡ drop 8 bytes → (place ≡ b.place) × (p8 ≡ after_place b rest)
+place_told columns place bytes p8 b rest fit e small front p =
+    let step = u64_step place b.place bytes (after_place b rest) small fit.place front (block_open b rest bytes e) in
+    (step.0, p ∙ step.1)
+
+-- the length is told, and the rows stand behind it
+pub length_told : (columns len : ℕ) (bytes p8 p12 : List ℕ) (b : BlockMark) (rest : List ℕ) → BlockFits columns b → p8 ≡ after_place b rest → len < 2 ^ 32 → take 4 p8 ≡ u32_bytes len → p8 ≡ drop 8 bytes → p12 ≡ drop 12 bytes → (len ≡ b.length) × (p12 ≡ after_length b rest)
+length_told columns len bytes p8 p12 b rest fit e small front p q =
+    let step = u32_step len b.length p8 (after_length b rest) small fit.length_fits front (sym e) in
+    (step.0, piece_more 8 4 bytes p8 p12 (after_length b rest) p q step.1)
+
+-- the rows are told, and the marks stand behind them
+pub rows_told : (columns rows : ℕ) (bytes p12 p16 : List ℕ) (b : BlockMark) (rest : List ℕ) → BlockFits columns b → p12 ≡ after_length b rest → rows < 2 ^ 32 → take 4 p12 ≡ u32_bytes rows → p12 ≡ drop 12 bytes → p16 ≡ drop 16 bytes → (rows ≡ b.rows) × (p16 ≡ after_rows b rest)
+rows_told columns rows bytes p12 p16 b rest fit e small front p q =
+    let step = u32_step rows b.rows p12 (after_rows b rest) small fit.rows front (sym e) in
+    (step.0, piece_more 12 4 bytes p12 p16 (after_rows b rest) p q step.1)
+
+pub block_is : (x b : BlockMark) → x.place ≡ b.place → x.length ≡ b.length → x.rows ≡ b.rows → x.marks ≡ b.marks → x ≡ b
+block_is x b p l r m = cc
