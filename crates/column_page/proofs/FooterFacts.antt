@@ -3,6 +3,7 @@ use Rattle.std.proofs.Common.{◌≡◌, ℕ, ◌+◌, ◌<◌, ◌≤◌, ◌^�
 use Rattle.std.specs.Prelude.{All}
 use Rattle.std.specs.List.{flat_map}
 use Rattle.std.proofs.lemmas.List.{drop-drop}
+use Rattle.column_page.specs.declared.footers.ColumnMark.{ColumnMark}
 use Rattle.column_page.specs.declared.footers.BlockMark.{BlockMark}
 use Rattle.column_page.specs.Footers.{block_bytes, mark_bytes, u32_bytes, u64_bytes}
 use Rattle.column_page.specs.FooterReading.{BlockFits}
@@ -45,5 +46,13 @@ rows_told columns rows bytes p12 p16 b rest fit e small front p q =
     let step = u32_step rows b.rows p12 (after_rows b rest) small fit.rows front (sym e) in
     (step.0, piece_more 12 4 bytes p12 p16 (after_rows b rest) p q step.1)
 
-pub block_is : (x b : BlockMark) → x.place ≡ b.place → x.length ≡ b.length → x.rows ≡ b.rows → x.marks ≡ b.marks → x ≡ b
-block_is x b p l r m = cc
+pub block_is : (place len rows : ℕ) (marks : List ColumnMark) (b : BlockMark) → place ≡ b.place → len ≡ b.length → rows ≡ b.rows → marks ≡ b.marks → ◌≡◌ {A = BlockMark} (record { place = place; length = len; rows = rows; marks = marks }) b
+block_is place len rows marks b p l r m =
+    let w : BlockMark = record { place = place; length = len; rows = rows; marks = marks } in
+    let x : BlockMark = record { place = b.place; length = len; rows = rows; marks = marks } in
+    let y : BlockMark = record { place = b.place; length = b.length; rows = rows; marks = marks } in
+    let z : BlockMark = record { place = b.place; length = b.length; rows = b.rows; marks = marks } in
+    let one : w ≡ x = ap (λ (n : ℕ). record w { place = n }) p in
+    let two : x ≡ y = ap (λ (n : ℕ). record x { length = n }) l in
+    let three : y ≡ z = ap (λ (n : ℕ). record y { rows = n }) r in
+    one ∙ two ∙ three ∙ ap (λ (ms : List ColumnMark). record z { marks = ms }) m

@@ -27,7 +27,7 @@ returns-clause-only c b rest fit e =
     let marks = c.in_ok-read.ensures.only b.marks rest then in
     let k = c.in_ok-read.read.len in
     let swap : k + 16 ≡ 16 + k = omega arith in
-    (block_is _ b one.0 two.0 three.0 marks.0, ap (λ (m : ℕ). drop m bytes) swap ∙ sym (drop-drop k 16 bytes) ∙ ap (drop k) (sym p16) ∙ marks.1)
+    (block_is _ _ _ _ b one.0 two.0 three.0 (c.from_vec-marks.ensures ∙ marks.0), ap (λ (m : ℕ). drop m bytes) swap ∙ sym (drop-drop k 16 bytes) ∙ ap (drop k) (sym p16) ∙ marks.1)
 
 pub returns-in_err-place-clause-none : goal.returns-in_err-place-clause-none
 returns-in_err-place-clause-none c =
