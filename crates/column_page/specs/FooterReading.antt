@@ -5,6 +5,7 @@ use Rattle.fixed_code.specs.NumberCode.{FitsBytes}
 use Rattle.column_page.specs.declared.footers.Span.{Span}
 use Rattle.column_page.specs.declared.footers.ColumnMark.{ColumnMark}
 use Rattle.column_page.specs.declared.footers.BlockMark.{BlockMark}
+use Rattle.column_page.specs.declared.footers.Footer.{Footer}
 
 -- the numbers of a footer are in the ranges of their types
 pub record SpanFits (s : Span) : Type 0 where
@@ -24,6 +25,13 @@ pub record BlockFits (columns : ℕ) (b : BlockMark) : Type 0 where
   pub rows : b.rows < 2 ^ 32
   pub number : length b.marks ≡ columns
   pub marks : All MarkFits b.marks
+
+-- the same of a whole footer; `is_footer` bounds its numbers of columns, rows and blocks itself
+pub record FooterFits (f : Footer) : Type 0 where
+  pub columns : f.columns < 2 ^ 32
+  pub rows : f.rows < 2 ^ 32
+  pub number : length f.blocks < 2 ^ 32
+  pub blocks : All (BlockFits f.columns) f.blocks
 
 -- ---- elements one after the other
 

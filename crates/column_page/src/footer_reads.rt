@@ -1,15 +1,14 @@
-ghost use Rattle.std.specs.Prelude.{◌≡◌, ◌+◌, ◌≤◌, ◌<◌, ◌^◌, ◌∷◌, [], ◌++◌, All, OnOk, List, ℕ, IfErr, IfOk, OnErr, length, take, drop};
+ghost use Rattle.std.specs.Prelude.{◌≡◌, ◌≢◌, ◌+◌, ◌≤◌, ◌<◌, ◌^◌, ◌∷◌, [], ◌++◌, All, OnOk, List, ℕ, IfErr, IfNone, IfOk, IfSome, OnErr, length, take, drop};
 ghost use Rattle.std.specs.List.{flat_map};
 ghost use Rattle.fixed_code.specs.NumberCode.{FitsBytes};
 ghost use Rattle.column_page.specs.declared.footers.Span.{Span};
 ghost use Rattle.column_page.specs.declared.footers.ColumnMark.{ColumnMark};
 ghost use Rattle.column_page.specs.declared.footers.BlockMark.{BlockMark};
 ghost use Rattle.column_page.specs.declared.footers.Footer.{Footer};
-ghost use Rattle.column_page.specs.Footers.{block_bytes, mark_bytes, u32_bytes, u64_bytes, wide_bytes};
-ghost use Rattle.column_page.specs.FooterReading.{BlockFits, MarkFits, SequenceThen, SpanFits};
+ghost use Rattle.column_page.specs.Footers.{block_bytes, footer_bytes, footer_fields, mark_bytes, u32_bytes, u64_bytes, wide_bytes};
+ghost use Rattle.column_page.specs.FooterReading.{BlockFits, FooterFits, MarkFits, SequenceThen, SpanFits};
 
 use crate::faults::FooterFault;
-use crate::footer_writes::write_footer;
 use crate::footers::{BlockMark, ColumnMark, Footer, Span};
 use byteorder::{BigEndian, ByteOrder};
 use fixed_code::get;
@@ -32,13 +31,6 @@ struct ReadMarks {
 struct ReadBlock {
     block: BlockMark,
     len: usize,
-}
-
-#[derive(Debug, Drop)]
-struct Head {
-    columns: u32,
-    rows: u32,
-    blocks: u32,
 }
 
 #[tactic(auto, unfolding(crate::specs::Footers::u32_bytes))]
@@ -190,4 +182,43 @@ fn read_blocks(alloc: Global, columns: u32, count: u32, bytes: &[u8]) -> Result<
         at += len;
     }
     Ok(blocks)
+}
+
+// The footer whose numbers and blocks stand at the front of the bytes.
+fn read_fields(alloc: Global, bytes: &[u8]) -> Result<Footer, FooterFault>
+    ensures fit { IfOk result (λ found. FooterFits found) }
+    ensures only { IfOk result (λ found. (f : Footer) (rest : List ℕ) → FooterFits f → footer_fields f ++ rest ≡ bytes.now → found ≡ f) }
+    ensures none { IfErr result (λ e. e ≡ FooterFault.NotAFooter → (f : Footer) (rest : List ℕ) → FooterFits f → footer_fields f ++ rest ≡ bytes.now → ⊥) }
+{
+    let columns = read_u32(bytes)?;
+    let rows = read_u32(&bytes[4..])?;
+    let count = read_u32(&bytes[8..])?;
+    let found = read_blocks(alloc, columns, count, &bytes[12..])?;
+    let blocks = Items::from_vec(found);
+    Ok(Footer {
+        columns,
+        rows,
+        blocks,
+    })
+}
+
+// What stands behind `PKSG` and the form 1.
+fn behind_form(bytes: &[u8]) -> Option<&[u8]>
+    ensures some { IfSome result (λ fields. bytes.now ≡ 80 ∷ 75 ∷ 83 ∷ 71 ∷ 1 ∷ fields.now) }
+    ensures none { IfNone result ((fields : List ℕ) → bytes.now ≢ 80 ∷ 75 ∷ 83 ∷ 71 ∷ 1 ∷ fields) }
+{
+    bytes.strip_prefix(b"PKSG\x01")
+}
+
+/// The one footer that can have written the bytes, whether or not it did.
+pub fn only_footer(alloc: Global, bytes: &[u8]) -> Result<Footer, FooterFault>
+    ensures fit { IfOk result (λ found. FooterFits found) }
+    ensures only { IfOk result (λ found. (f : Footer) → FooterFits f → footer_bytes f ≡ bytes.now → found ≡ f) }
+    ensures none { IfErr result (λ e. e ≡ FooterFault.NotAFooter → (f : Footer) → FooterFits f → footer_bytes f ≡ bytes.now → ⊥) }
+{
+    let Some(fields) = behind_form(bytes) else {
+        return Err(FooterFault::NotAFooter);
+    };
+    let footer = read_fields(alloc, fields)?;
+    Ok(footer)
 }

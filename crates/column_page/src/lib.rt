@@ -4,6 +4,7 @@
 mod decode;
 mod faults;
 mod footer_reads;
+mod footer_tests;
 mod footer_writes;
 mod footers;
 mod marks;
@@ -12,13 +13,15 @@ mod plain;
 mod reads;
 mod runs;
 mod values;
+mod whole_footers;
 mod words;
 
-pub use faults::PageFault;
+pub use faults::{FooterFault, PageFault};
 pub use footer_writes::write_footer;
 pub use footers::{BlockMark, ColumnMark, Footer, Span};
 pub use marks::mark_of;
 pub use pages::{all_fit, decode_page, encode_page};
+pub use whole_footers::read_footer;
 
 #[cfg(test)]
 mod tests;
