@@ -167,7 +167,12 @@ fn push_block(blocks: &mut Vec<BlockMark>, block: BlockMark) -> Result<(), Foote
     }
 }
 
-fn read_blocks(alloc: Global, columns: u32, count: u32, bytes: &[u8]) -> Result<Vec<BlockMark>, FooterFault>
+fn read_blocks(
+    alloc: Global,
+    columns: u32,
+    count: u32,
+    bytes: &[u8],
+) -> Result<Vec<BlockMark>, FooterFault>
     ensures fit { IfOk result (λ blocks. All (BlockFits columns) blocks.items) }
     ensures number { IfOk result (λ blocks. length blocks.items ≡ count) }
     ensures only { IfOk result (λ found. (blocks : List BlockMark) (rest : List ℕ) → SequenceThen (BlockFits columns) block_bytes count bytes.now blocks rest → found.items ≡ blocks) }
