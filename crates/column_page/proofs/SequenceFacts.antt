@@ -1,6 +1,6 @@
 -- Numbers and elements that stand one after the other are the only ones that can.
 use Rattle.std.proofs.Common.{◌≡◌, ℕ, ◌+◌, ◌<◌, ◌≤◌, ◌^◌, List, [], ◌∷◌, ◌++◌, length, get_or, take, drop, refl, sym, ap, ◌∙◌, arith}
-use Rattle.std.specs.Prelude.{All, ℤ}
+use Rattle.std.specs.Prelude.{ℤ}
 use Rattle.std.specs.List.{flat_map}
 use Rattle.std.proofs.lemmas.List.{append_assoc, append_cancel_left, drop-drop, drop_all, drop_more, length-append, take-append-drop, take_all, take_more}
 use Rattle.byteorder.specs.Endian.{big_bytes, big_number}

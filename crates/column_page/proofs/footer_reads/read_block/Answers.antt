@@ -1,9 +1,8 @@
-use Rattle.std.proofs.Common.{◌≡◌, ◌+◌, ◌++◌, ℕ, List, refl, sym, ap, ◌∙◌, arith, length, drop}
+use Rattle.std.proofs.Common.{◌≡◌, ◌+◌, ℕ, sym, ap, ◌∙◌, arith, length, drop}
 use Rattle.std.proofs.lemmas.List.{drop-drop}
 use Rattle.std.proofs.lemmas.Result.{err_from_is_err_and}
 use Rattle.std.proofs.lemmas.Slice.{between_to_end}
 use Rattle.std.specs.List.{between}
-use Rattle.column_page.specs.declared.footers.ColumnMark.{ColumnMark}
 use Rattle.column_page.specs.Footers.{mark_bytes}
 use Rattle.column_page.specs.FooterReading.{MarkFits, SequenceThen}
 use Rattle.column_page.proofs.FooterFacts.{after_length, after_place, block_is, block_open, length_told, place_told, rows_told}

@@ -1,12 +1,12 @@
-use Rattle.std.proofs.Common.{◌≡◌, ◌+◌, ◌-◌, ◌≤◌, ◌<◌, ◌∷◌, ◌++◌, ℕ, List, sym, subst, ap, ◌∙◌, arith, length, drop, take, [], get_or}
+use Rattle.std.proofs.Common.{◌≡◌, ◌+◌, ◌-◌, ◌≤◌, ℕ, List, sym, subst, ap, ◌∙◌, arith, length, drop}
 use Rattle.std.specs.Prelude.{All, None, false}
 use Rattle.std.proofs.lemmas.List.{length-drop, length_push}
-use Rattle.std.proofs.lemmas.List.Elements.{All-nil, All-push}
+use Rattle.std.proofs.lemmas.List.Elements.{All-push}
 use Rattle.std.proofs.lemmas.Result.{err_from_is_err_and}
 use Rattle.std.proofs.lemmas.Slice.{between_to_end}
 use Rattle.column_page.specs.declared.footers.ColumnMark.{ColumnMark}
 use Rattle.column_page.specs.Footers.{mark_bytes}
-use Rattle.column_page.specs.FooterReading.{HaveElements, MarkFits, SequenceThen}
+use Rattle.column_page.specs.FooterReading.{HaveElements, MarkFits}
 use Rattle.column_page.proofs.SequenceFacts.{element_more, next_element}
 use Rattle.column_page.proofs.footer_reads.read_marks.Goals as goal
 
