@@ -1,10 +1,10 @@
-//! Pages: the cells of one column in a block, in the shortest of three forms.
+//! Pages, the cells of one column in a block in the shortest of three forms, and the footers of segments.
 #![tactic(auto)]
 
 mod decode;
 mod faults;
+mod footer_fits;
 mod footer_reads;
-mod footer_tests;
 mod footer_writes;
 mod footers;
 mod marks;

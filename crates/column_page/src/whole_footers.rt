@@ -4,8 +4,8 @@ ghost use Rattle.column_page.specs.Footers.{footer_bytes, is_footer};
 ghost use Rattle.column_page.specs.FooterReading.{FooterFits};
 
 use crate::faults::FooterFault;
+use crate::footer_fits::is_footer;
 use crate::footer_reads::only_footer;
-use crate::footer_tests::is_footer;
 use crate::footer_writes::write_footer;
 use crate::footers::Footer;
 use std::alloc::Global;

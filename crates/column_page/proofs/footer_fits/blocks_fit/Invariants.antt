@@ -1,6 +1,6 @@
 use Rattle.std.proofs.Common.{◌≡◌, ◌≤◌, ◌*◌, ◌^◌, drop}
 use Rattle.column_page.specs.Footers.{blocks_fit}
-use Rattle.column_page.proofs.footer_tests.blocks_fit.Given as goal
+use Rattle.column_page.proofs.footer_fits.blocks_fit.Given as goal
 
 abbrev pub invariant-loop-block : goal.invariant-loop-block
 invariant-loop-block l = record {
