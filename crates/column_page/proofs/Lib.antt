@@ -4,3 +4,5 @@ pub mod Joined
 pub mod WordFacts
 pub mod ReadFacts
 pub mod PageFacts
+pub mod SequenceFacts
+pub mod FooterFacts

@@ -38,7 +38,7 @@ u16_one n m f g r s h = sym (big_number-reads_back 2 n r f) ∙ ap (big_number 2
 pub length-u16 : (n : ℕ) → length (u16_bytes n) ≡ 2
 length-u16 n = length-bytes_high_first 2 n
 
-code_one : (w : ℕ) (y z : ℤ) → 1 ≤ w → w ≤ 16 → FitsBytes w y → FitsBytes w z → (r s : List ℕ) → number_code w y ++ r ≡ number_code w z ++ s → y ≡ z
+pub code_one : (w : ℕ) (y z : ℤ) → 1 ≤ w → w ≤ 16 → FitsBytes w y → FitsBytes w z → (r s : List ℕ) → number_code w y ++ r ≡ number_code w z ++ s → y ≡ z
 code_one w y z low high f g r s h =
     only_code w z low high g y f (same_front _ _ r s (length-code w y ∙ sym (length-code w z)) h)
 

@@ -38,10 +38,15 @@ mark_bytes m = nulls_byte m.nulls ∷ span_bytes m.span
 abbrev pub block_bytes : BlockMark → List ℕ
 block_bytes b = u64_bytes b.place ++ (u32_bytes b.length ++ (u32_bytes b.rows ++ flat_map mark_bytes b.marks))
 
--- `PKSG`, the form 1, the numbers of columns, rows and blocks, and each block
-abbrev pub footer_body : Footer → List ℕ
-footer_body f = 80 ∷ 75 ∷ 83 ∷ 71 ∷ 1 ∷ u32_bytes f.columns ++ (u32_bytes f.rows ++ (u32_bytes (length f.blocks) ++ flat_map block_bytes f.blocks))
+-- the numbers of columns, rows and blocks, and each block
+abbrev pub footer_fields : Footer → List ℕ
+footer_fields f = u32_bytes f.columns ++ (u32_bytes f.rows ++ (u32_bytes (length f.blocks) ++ flat_map block_bytes f.blocks))
 
+-- `PKSG`, the form 1, and the fields
+abbrev pub footer_body : Footer → List ℕ
+footer_body f = 80 ∷ 75 ∷ 83 ∷ 71 ∷ 1 ∷ footer_fields f
+
+-- the body and its digest
 abbrev pub footer_bytes : Footer → List ℕ
 footer_bytes f = footer_body f ++ sha256 (footer_body f)
 
@@ -50,11 +55,15 @@ abbrev pub span_rises : Option Span → Truth
 span_rises None = true
 span_rises (Some s) = int_le s.least s.greatest
 
--- the blocks stand without gaps from a place on, each is followed by a digest of 32 bytes, and each but the last holds 1,024 of the rows that are left
+-- a block stands at a place and holds 1,024 of the rows that are left, or all of them; it has a mark for each column
+abbrev pub block_fits : ℕ → ℕ → ℕ → BlockMark → Truth
+block_fits columns at left b =
+    (b.place == at) && (nat_le 1 b.rows && (b.rows == min 1024 left && (length b.marks == columns && list_all (λ m. span_rises m.span) b.marks)))
+
+-- the blocks stand without gaps from a place on, each is followed by a digest of 32 bytes, and no rows are left
 abbrev pub blocks_fit : ℕ → ℕ → ℕ → List BlockMark → Truth
 blocks_fit columns at left [] = left == 0
-blocks_fit columns at left (b ∷ bs) =
-    (b.place == at) && (nat_le 1 b.rows && (b.rows == min 1024 left && ((length b.marks == columns) && (list_all (λ m. span_rises m.span) b.marks && blocks_fit columns (at + b.length + 32) (left - b.rows) bs))))
+blocks_fit columns at left (b ∷ bs) = block_fits columns at left b && blocks_fit columns (at + b.length + 32) (left - b.rows) bs
 
 -- 1 to 64 columns and 1 to 65,536 rows in blocks
 abbrev pub is_footer : Footer → Truth

@@ -3,3 +3,4 @@ pub mod Page
 pub mod Words
 pub mod Reading
 pub mod Footers
+pub mod FooterReading

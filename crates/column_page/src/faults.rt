@@ -9,3 +9,13 @@ pub enum PageFault {
     #[error("memory ran out")]
     Memory,
 }
+
+/// Why bytes give no footer.
+#[derive(Clone, Copy, Debug, Drop, PartialEq, Eq, Error)]
+pub enum FooterFault {
+    /// The bytes are the footer of no segment.
+    #[error("the bytes are no footer of a segment")]
+    NotAFooter,
+    #[error("memory ran out")]
+    Memory,
+}

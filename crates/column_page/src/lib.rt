@@ -1,8 +1,10 @@
-//! Pages: the cells of one column in a block, in the shortest of three forms.
+//! Pages, the cells of one column in a block in the shortest of three forms, and the footers of segments.
 #![tactic(auto)]
 
 mod decode;
 mod faults;
+mod footer_fits;
+mod footer_reads;
 mod footer_writes;
 mod footers;
 mod marks;
@@ -11,13 +13,15 @@ mod plain;
 mod reads;
 mod runs;
 mod values;
+mod whole_footers;
 mod words;
 
-pub use faults::PageFault;
+pub use faults::{FooterFault, PageFault};
 pub use footer_writes::write_footer;
 pub use footers::{BlockMark, ColumnMark, Footer, Span};
 pub use marks::mark_of;
 pub use pages::{all_fit, decode_page, encode_page};
+pub use whole_footers::read_footer;
 
 #[cfg(test)]
 mod tests;

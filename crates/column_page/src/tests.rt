@@ -2,7 +2,8 @@ ghost use Rattle.std.specs.Prelude.{IsTrue};
 ghost use Rattle.pk_values.specs.Schemas.{is_kind};
 
 use crate::{
-    BlockMark, Footer, PageFault, Span, all_fit, decode_page, encode_page, mark_of, write_footer,
+    BlockMark, Footer, FooterFault, PageFault, Span, all_fit, decode_page, encode_page, mark_of,
+    read_footer, write_footer,
 };
 use pk_values::{Column, Items, Kind, Octets, Value};
 use std::alloc::{AllocError, Global};
@@ -94,6 +95,19 @@ fn texts_in_turns_go_into_a_dictionary(rt: HostRuntime) -> Result<(), Fail> {
     goes_both_ways(&rt, alloc, &texts, &short, page)
 }
 
+// The footer of a segment with the one row 1, a, 1 and its last byte, which is 2.
+fn one_row(alloc: Global, last: u8) -> Result<Vec<u8>, AllocError> {
+    let mut bytes = Vec::new(alloc);
+    bytes.extend_from_slice(
+        b"PKSG\x01\x00\x00\x00\x03\x00\x00\x00\x01\x00\x00\x00\x01\x00\x00\x00\x00\x00\x00\x00\x00\x00\x00\x00\x1f\x00\x00\x00\x01\x00\x01\x80\x00\x00\x00\x00\x00\x00\x00\x00\x00\x00\x00\x00\x00\x00\x01\x80\x00\x00\x00\x00\x00\x00\x00\x00\x00\x00\x00\x00\x00\x00\x01\x00\x00\x00\x01\x80\x00\x00\x00\x00\x00\x00\x00\x00\x00\x00\x00\x00\x00\x00\x01\x80\x00\x00\x00\x00\x00\x00\x00\x00\x00\x00\x00\x00\x00\x00\x01",
+    )?;
+    bytes.extend_from_slice(
+        b"\x6c\xe2\x18\xbd\x8c\x30\x2c\xef\x99\x14\xcb\x6d\xac\xd0\xd8\x69\x9f\x67\xa3\x3f\xcb\x5f\xe0\xee\x1e\x68\x44\xd9\x85\x7d\xbb",
+    )?;
+    bytes.push(last)?;
+    Ok(bytes)
+}
+
 #[test]
 fn the_footer_of_one_row(rt: HostRuntime) -> Result<(), Fail> {
     let alloc = rt.alloc();
@@ -110,17 +124,36 @@ fn the_footer_of_one_row(rt: HostRuntime) -> Result<(), Fail> {
     })?;
     let footer = Footer::new(3, 1, blocks);
     let bytes = write_footer(alloc, &footer)?;
-    assert!(rt; bytes.as_slice().len() == 135);
-    assert!(rt;
-        bytes.as_slice().starts_with(
-            b"PKSG\x01\x00\x00\x00\x03\x00\x00\x00\x01\x00\x00\x00\x01\x00\x00\x00\x00\x00\x00\x00\x00\x00\x00\x00\x1f\x00\x00\x00\x01\x00\x01\x80\x00\x00\x00\x00\x00\x00\x00\x00\x00\x00\x00\x00\x00\x00\x01\x80\x00\x00\x00\x00\x00\x00\x00\x00\x00\x00\x00\x00\x00\x00\x01\x00\x00\x00\x01\x80".as_slice()
-        )
-    );
+    assert!(rt; bytes.as_slice() == one_row(alloc, 2)?.as_slice());
     let one = Span {
         least: 1,
         greatest: 1,
     };
     assert!(rt; footer.span(0, 0) == Some(one) && footer.span(0, 1).is_none());
     assert!(rt; !footer.nulls(0, 1) && footer.nulls(0, 3));
+    Ok(())
+}
+
+#[test]
+fn a_footer_reads_back(rt: HostRuntime) -> Result<(), Fail> {
+    let alloc = rt.alloc();
+    let bytes = one_row(alloc, 2)?;
+    let footer = read_footer(alloc, bytes.as_slice())?;
+    assert!(rt; footer.columns() == 3 && footer.rows() == 1 && footer.blocks() == 1);
+    assert!(rt; write_footer(alloc, &footer)?.as_slice() == bytes.as_slice());
+    Ok(())
+}
+
+fn is_no_footer(alloc: Global, bytes: &[u8]) -> bool {
+    matches!(read_footer(alloc, bytes), Err(FooterFault::NotAFooter))
+}
+
+#[test]
+fn changed_bytes_are_no_footer(rt: HostRuntime) -> Result<(), Fail> {
+    let alloc = rt.alloc();
+    let mut bytes = one_row(alloc, 3)?;
+    assert!(rt; is_no_footer(alloc, bytes.as_slice()));
+    let _last = bytes.pop();
+    assert!(rt; is_no_footer(alloc, bytes.as_slice()));
     Ok(())
 }
