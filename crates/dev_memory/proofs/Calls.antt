@@ -17,7 +17,7 @@ deeds-more (Blank a done ∷ calls) pieces more le = ap (λ (l : List Deed). Bla
 deeds-more (OnFiles ∷ calls) pieces more le = ap (λ (l : List Deed). ChangedFiles ∷ l) (deeds-more calls pieces more le)
 
 -- more calls have the bytes behind
-deeds-append : (calls more : List Call) (pieces : List ℕ) → deeds pieces (calls ++ more) ≡ deeds pieces calls ++ deeds (drop (written calls) pieces) more
+pub deeds-append : (calls more : List Call) (pieces : List ℕ) → deeds pieces (calls ++ more) ≡ deeds pieces calls ++ deeds (drop (written calls) pieces) more
 deeds-append [] more pieces = refl
 deeds-append (Write a at size done ∷ calls) more pieces =
     ap (λ (l : List Deed). Wrote a at (take size pieces) done ∷ l) (deeds-append calls more (drop size pieces)

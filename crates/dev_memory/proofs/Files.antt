@@ -248,7 +248,7 @@ find_head q k f files is =
     ap (λ (b : Bool). find nat_cmp q (if b then (f.number, f.bytes) ∷ entries_at k files else entries_at k files)) parts.1
     ∙ ap (λ (b : Bool). cond b (Some f.bytes) (find nat_cmp q (entries_at k files))) (tie_eq q f.number ∙ parts.0)
 
-find_skip : (q k : ℕ) (f : File) (files : List File) → (nat_eq f.number q && stands_at k f) ≡ false → find nat_cmp q (entries_at k (f ∷ files)) ≡ find nat_cmp q (entries_at k files)
+pub find_skip : (q k : ℕ) (f : File) (files : List File) → (nat_eq f.number q && stands_at k f) ≡ false → find nat_cmp q (entries_at k (f ∷ files)) ≡ find nat_cmp q (entries_at k files)
 find_skip q k f files is = go (nat_eq f.number q) (tie_eq q f.number) (stands_at k f) is
   where
     go : (e : Bool) → eq_by_cmp nat_cmp q f.number ≡ e → (s : Bool) → (e && s) ≡ false → find nat_cmp q (if s then (f.number, f.bytes) ∷ entries_at k files else entries_at k files) ≡ find nat_cmp q (entries_at k files)

@@ -4,5 +4,8 @@ mod Files
 mod Keeping
 mod Steps
 mod Growing
+mod Crashes
+mod Leaving
+mod Spoiling
 mod Views
 mod Beginning

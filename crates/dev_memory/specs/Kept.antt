@@ -1,8 +1,8 @@
 -- What a store in memory keeps, by its parts.
-use Rattle.std.specs.Prelude.{◌≡◌, ℕ, ◌≤◌, true, List, [], ◌∷◌, ◌++◌, length, map}
+use Rattle.std.specs.Prelude.{◌≡◌, ℕ, ◌+◌, ◌≤◌, true, List, [], ◌∷◌, ◌++◌, length, map}
 use Rattle.std.specs.List.{list_all}
 use Rattle.dev_memory.specs.Areas.{AreaView, bytes_in, has_room}
-use Rattle.dev_memory.specs.Disk.{Held, Deed, deeds, written, bytes_of, disk_now, settled_by, never}
+use Rattle.dev_memory.specs.Disk.{Held, Deed, ChangedFiles, closed, deeds, written, bytes_of, disk_now, settled_by, never}
 use Rattle.dev_memory.specs.declared.call.Call.{Call}
 use Rattle.dev_memory.specs.declared.call.File.{File}
 
@@ -50,3 +50,13 @@ at_first start files = record { start = start; deeds = []; files = files }
 -- a file of the first image
 abbrev pub first_file : ℕ × List ℕ → File
 first_file entry = record { number = entry.0; bytes = entry.1; from = 0; until = never }
+
+-- one file more, adopted by the call of the next number
+pub record Adopts (number : ℕ) (bytes : List ℕ) (old new : Held) : Type 0 where
+  pub added : File
+  pub is_new : IsNewFile number bytes (length old.deeds + 1) added
+  pub now : new ≡ with_files (grown old ChangedFiles) (old.files ++ added ∷ [])
+
+-- the files outside a list are forgotten by the call of the next number
+abbrev pub forgotten : List ℕ → Held → Held
+forgotten keep h = with_files (grown h ChangedFiles) (map (closed keep (length h.deeds + 1)) h.files)

@@ -8,7 +8,7 @@ use Rattle.std.specs.FinMap.{from_entries}
 use Rattle.dev_traits.specs.Image.{Image, area_of, file, overwritten, Torn}
 use Rattle.dev_memory.specs.Disk.{Deed, Wrote, Synced, Blanked, ChangedFiles, AreaDisk, Disk, at_rest, area_in, area_disk, Reaches, IsImage, can_write, wrote, blanked, after, replay, entries_at, Held, disk_now, disk_at, bytes_of, read_of, MightSince}
 
-torn_same : (at n : ℕ) (bytes : List ℕ) → Torn at n bytes bytes
+pub torn_same : (at n : ℕ) (bytes : List ℕ) → Torn at n bytes bytes
 torn_same at n bytes = record { before = refl; after = refl; no_shorter = omega arith; no_longer = omega arith }
 
 -- after all the calls
@@ -28,7 +28,7 @@ counts held t image le is = record {
 pub only : (held : Held) (image : Image) → MightSince held (length held.deeds) image → IsImage (disk_now held) image
 only held image might = subst (λ (d : Disk). IsImage d image) (disk_whole held might.calls_before might.since might.until) might.is_image
 
-torn_overwritten : (at : ℕ) (old piece : List ℕ) → at ≤ length old → Torn at (length piece) old (overwritten old at piece)
+pub torn_overwritten : (at : ℕ) (old piece : List ℕ) → at ≤ length old → Torn at (length piece) old (overwritten old at piece)
 torn_overwritten at old piece le =
     let front : length (take at old) ≡ at = length-take-le at old le in
     record {
@@ -95,7 +95,7 @@ start-sound (bytes ∷ start) (suc a) = start-sound start a
 pub sound : (held : Held) → AreSound (disk_now held).areas
 sound held = replay-sound held.deeds (map at_rest held.start) (start-sound held.start)
 
-length-after : (deed : Deed) (areas : List AreaDisk) → length (after deed areas) ≡ length areas
+pub length-after : (deed : Deed) (areas : List AreaDisk) → length (after deed areas) ≡ length areas
 length-after (Wrote a at piece ok) areas = length-set areas a (wrote at piece ok (area_in areas a))
 length-after (Synced a) areas = length-set areas a (at_rest (area_in areas a).bytes)
 length-after (Blanked a ok) areas = length-set areas a (blanked ok (area_in areas a))

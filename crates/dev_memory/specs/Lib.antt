@@ -1,11 +1,14 @@
 pub mod Areas
+pub mod Crash
 pub mod Disk
+pub mod Images
 pub mod Inputs
 pub mod Kept
 pub mod Laws
 pub mod Maker
 pub mod Reader
 pub mod Sinks
+pub mod Spoils
 pub mod Store
 pub mod Strikes
 pub mod Told

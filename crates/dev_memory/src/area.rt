@@ -2,7 +2,7 @@ ghost use Rattle.std.specs.Prelude.{◌≡◌, ◌+◌, ◌-◌, ◌≤◌, ◌�
 ghost use Rattle.dev_traits.specs.Image.{overwritten};
 
 use dev_traits::Memory;
-use std::alloc::AllocError;
+use std::alloc::{AllocError, Global};
 use std::marker::Model;
 
 /// An area of a store, with room to grow. Contracts see its bytes and how many more it has room for.
@@ -31,6 +31,13 @@ impl Area {
         Ok(Area { bytes })
     }
 
+    /// An area with the bytes of a slice.
+    pub fn from_slice(alloc: Global, bytes: &[u8]) -> Result<Area, Memory>
+        ensures { IfOk result (λ area. area.bytes ≡ bytes.now) }
+    {
+        Area::new(Vec::from_slice(alloc, bytes)?)
+    }
+
     /// Takes memory for so many bytes more.
     pub fn reserve(&mut self, more: usize) -> Result<(), Memory>
         ensures room { OnOk result (more ≤ self.new.room) }
@@ -53,6 +60,16 @@ impl Area {
         self.bytes.extend_from_slice(&piece[over..]).unwrap();
     }
 
+    /// Takes memory, and writes over what is there, and past the end.
+    pub fn overwrite(&mut self, at: usize, piece: &[u8]) -> Result<(), Memory>
+        requires inside { at ≤ length self.old.bytes }
+        ensures written { OnOk result (self.new.bytes ≡ overwritten self.old.bytes at piece.now) }
+    {
+        self.reserve(piece.len())?;
+        self.write(at, piece);
+        Ok(())
+    }
+
     /// Makes it the one byte 0. It takes no memory.
     pub fn blank(&mut self)
         ensures blank { self.new.bytes ≡ 0 ∷ [] }
@@ -66,5 +83,12 @@ impl Area {
         ensures { result.now ≡ self.now.bytes }
     {
         self.bytes.as_slice()
+    }
+
+    pub fn into_vec(self) -> Vec<u8>
+        ensures { result.items ≡ self.bytes }
+    {
+        let Area { bytes } = self;
+        bytes
     }
 }

@@ -1,4 +1,4 @@
-ghost use Rattle.std.specs.Prelude.{◌≡◌, ◌≤◌, ◌+◌, ◌-◌, ◌^◌, ℕ, min, Option, Some, IsTrue, IsFalse, Contains};
+ghost use Rattle.std.specs.Prelude.{◌≡◌, ◌≤◌, ◌+◌, ◌-◌, ◌^◌, ℕ, [], min, Option, Some, None, IsTrue, IsFalse, Contains};
 ghost use Rattle.dev_traits.specs.Causes.{Rose};
 ghost use Rattle.dev_memory.specs.Strikes.{IsStruck};
 
@@ -17,7 +17,12 @@ pub struct Faults {
 
 impl Faults {
     /// No call fails.
-    pub fn none(alloc: Global) -> Faults {
+    pub fn none(alloc: Global) -> Faults
+        ensures store { result.store.items ≡ [] }
+        ensures maker { result.maker.items ≡ [] }
+        ensures reader { result.reader.items ≡ [] }
+        ensures stop { result.stop ≡ None }
+    {
         Faults {
             store: Vec::new(alloc),
             maker: Vec::new(alloc),
@@ -47,6 +52,7 @@ pub(crate) fn strikes(fails: &[u64], stop: Option<u64>, count: &mut u64, faults:
     ensures listed { Contains fails.now count.new → IsTrue result }
     ensures stopped { (number : ℕ) → stop ≡ Some number → number ≤ count.new → IsTrue result }
     ensures only { IsTrue result → IsStruck fails.now stop count.new }
+    ensures all { IsStruck fails.now stop count.new → IsTrue result }
     ensures rose { IsTrue result → Rose faults.old faults.new }
     ensures same { IsFalse result → faults.new ≡ faults.old }
     ensures later { faults.old ≤ faults.new }

@@ -1,4 +1,5 @@
-ghost use Rattle.std.specs.Prelude.{◌≡◌, ◌+◌, ◌≤◌, ◌<◌, ◌++◌, ◌∷◌, [], ℕ, true, false, nat_eq, ◌&&◌, map, length, option_map, vec_len, vec_capacity, OnOk, OnErr, IfOk};
+ghost use Rattle.std.specs.Prelude.{◌≡◌, ◌+◌, ◌≤◌, ◌<◌, ◌++◌, ◌∷◌, [], ℕ, true, false, nat_eq, ◌&&◌, map, length, option_map, vec_len, vec_capacity, OnOk, OnErr, IfOk, IsTrue, IsFalse};
+ghost use Rattle.dev_memory.specs.Spoils.{ChangesFile, ChangesOne, Spoils};
 ghost use Rattle.std.specs.Ordering.{nat_cmp};
 ghost use Rattle.std.specs.List.{list_all};
 ghost use Rattle.std.specs.FinMap.Entries.{find};
@@ -6,9 +7,11 @@ ghost use Rattle.dev_traits.specs.Image.{area_of};
 ghost use Rattle.dev_memory.specs.Areas.{bytes_in, has_room};
 ghost use Rattle.dev_memory.specs.Disk.{Wrote, Synced, Blanked, ChangedFiles, disk_now, read_of, entries_at, stands_at, is_in, closed, never, settled_by};
 
-use crate::SharedBytes;
 use crate::area::Area;
 use crate::call::{Call, File, NEVER};
+use crate::crash::area_left;
+use crate::left_files::files_left;
+use crate::{Image, SharedBytes};
 use dev_traits::Memory;
 use pk_values::Octets;
 use std::alloc::Global;
@@ -40,7 +43,7 @@ impl Model for Kept {
 }
 
 // Whether a file stood adopted after so many calls.
-fn stands(file: &File, calls: u64) -> bool
+pub(crate) fn stands(file: &File, calls: u64) -> bool
     ensures { result ≡ stands_at calls file.now }
 {
     file.from <= calls && (calls < file.until || file.until == NEVER)
@@ -88,6 +91,27 @@ fn close_others(files: &mut [File], keep: &[u64], now: u64)
     }
 }
 
+// Changes a byte of a file, and tells whether it did.
+fn change(file: &mut File, at: u64, byte: u8) -> bool
+    ensures done { IsTrue result → ChangesFile at byte file.old file.new }
+    ensures same { IsFalse result → file.new ≡ file.old }
+{
+    at < file.bytes.as_slice().len() as u64 && file.bytes.change(at as usize, byte)
+}
+
+// Changes a byte of the file that is read under a number.
+fn change_file(files: &mut [File], number: u64, calls: u64, at: u64, byte: u8) -> bool
+    ensures done { IsTrue result → ChangesOne number calls at byte files.old files.new }
+    ensures same { IsFalse result → files.new ≡ files.old }
+{
+    for i in 0..files.len() {
+        if is_standing(&files[i], number, calls) {
+            return change(&mut files[i], at, byte);
+        }
+    }
+    false
+}
+
 // Takes memory for so many bytes more in each area.
 fn reserve_all(areas: &mut [Area], more: usize) -> Result<(), Memory>
     ensures same { map bytes_in areas.new ≡ map bytes_in areas.old }
@@ -123,7 +147,20 @@ fn areas_of(alloc: Global, start: &[Octets]) -> Result<Vec<Area>, Memory>
     Ok(areas)
 }
 
+fn three(alloc: Global, first: Octets, second: Octets, third: Octets) -> Result<Vec<Octets>, Memory>
+    ensures { IfOk result (λ all. all.items ≡ first ∷ second ∷ third ∷ []) }
+{
+    let mut all = Vec::new(alloc);
+    all.push(first)?;
+    all.push(second)?;
+    all.push(third)?;
+    Ok(all)
+}
+
 impl Kept {
+    ghost use Rattle.dev_memory.specs.Crash.{Left, AreSynced};
+    ghost use Rattle.dev_memory.specs.Disk.{area_disk, IsImage};
+    ghost use Rattle.dev_memory.specs.Images.{image_of};
     ghost use Rattle.dev_memory.specs.Kept.{grown, with_files, at_first, IsValid, IsNewFile};
 
     /// Three areas with these bytes, and these files, before any call.
@@ -158,6 +195,32 @@ impl Kept {
         ensures { option_map (λ b. b.now) result ≡ find nat_cmp number (entries_at (length self.now.held.deeds) self.now.held.files) }
     {
         find_file(&self.files, number, self.calls.len() as u64)
+    }
+
+    // What a crash may leave of an area, by number.
+    fn left(&self, alloc: Global, area: u32, pick: u64) -> Result<Octets, Memory>
+        requires { area < 3 }
+        ensures { IfOk result (λ left. Left pick (area_disk (disk_now self.now.held) area) left) }
+    {
+        if pick == 0 {
+            return Octets::from_slice(alloc, self.area(area));
+        }
+        let start = self.start[area as usize].as_slice();
+        area_left(alloc, start, &self.calls, &self.pieces, area, pick)
+    }
+
+    /// What a crash now may leave, by number.
+    pub fn image(&self, alloc: Global, pick: u64) -> Result<Image, Memory>
+        ensures left { IfOk result (λ image. IsImage (disk_now self.now.held) (image_of image)) }
+        ensures read { pick ≡ 0 → IfOk result (λ image. image_of image ≡ read_of (disk_now self.now.held)) }
+        ensures synced { pick ≡ 1 → IfOk result (λ image. AreSynced (disk_now self.now.held) (image_of image)) }
+    {
+        let first = self.left(alloc, 0, pick)?;
+        let second = self.left(alloc, 1, pick)?;
+        let third = self.left(alloc, 2, pick)?;
+        let areas = three(alloc, first, second, third)?;
+        let files = files_left(alloc, &self.files, self.calls.len() as u64, pick)?;
+        Ok(Image { areas, files })
     }
 
     /// Takes memory for so many calls more, with so many bytes in them.
@@ -290,5 +353,18 @@ impl Kept {
         self.calls.push_reserved(Call::OnFiles);
         close_others(&mut self.files, keep, now);
         self.spare_calls -= 1;
+    }
+
+    /// Changes a byte of an adopted file, and tells whether it did.
+    pub fn spoil(&mut self, number: u64, at: u64, byte: u8) -> bool
+        ensures valid { IsValid self.new.held }
+        ensures done { IsTrue result → Spoils number at byte (disk_now self.old.held) (disk_now self.new.held) }
+        ensures same { IsFalse result → self.new.held ≡ self.old.held }
+        ensures deeds { self.new.held.deeds ≡ self.old.held.deeds }
+        ensures calls { self.new.spare_calls ≡ self.old.spare_calls }
+        ensures bytes { self.new.spare_bytes ≡ self.old.spare_bytes }
+    {
+        let calls = self.calls.len() as u64;
+        change_file(&mut self.files, number, calls, at, byte)
     }
 }

@@ -3,10 +3,12 @@
 
 mod area;
 mod call;
+mod crash;
 mod faults;
 mod image;
 mod inputs;
 mod kept;
+mod left_files;
 mod maker;
 mod reader;
 mod shared;

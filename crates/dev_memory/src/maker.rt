@@ -1,19 +1,21 @@
-ghost use Rattle.std.specs.Prelude.{◌≡◌, ◌++◌, ◌^◌, ◌≤◌, [], ℕ, List, Some, IsTrue, length};
+ghost use Rattle.std.specs.Prelude.{◌≡◌, ◌++◌, ◌^◌, ◌≤◌, [], ℕ, List, Some, IfOk, IsTrue, length};
+ghost use Rattle.dev_memory.specs.Reader.{IsNew};
 ghost use Rattle.dev_traits.specs.Maker.{MakerView};
 
-use crate::SharedBytes;
 use crate::faults::{Listed, strikes};
-use dev_traits::{DevError, FileMaker};
+use crate::{MemReader, SharedBytes};
+use dev_traits::{DevError, FileMaker, Memory};
 use std::alloc::Global;
 use std::mem;
 
 const MOST: usize = 1 << 44;
 
-/// A file that is made.
+/// A file that is made, with a first reader, so that adopting it takes no memory.
 #[derive(Drop)]
 pub struct MemSealed {
     pub(crate) file: SharedBytes,
-    ghost short: { length file ≤ 2 ^ 44 },
+    pub(crate) reader: MemReader,
+    ghost is_new: { IsNew file reader },
 }
 
 /// A maker of files in memory, which fails at the listed calls.
@@ -21,6 +23,7 @@ pub struct MemSealed {
 pub struct MemMaker {
     alloc: Global,
     fails: Listed,
+    reader_fails: Listed,
     count: u64,
     bytes: Vec<u8>,
     is_started: bool,
@@ -29,14 +32,17 @@ pub struct MemMaker {
 }
 
 impl MemMaker {
-    ghost use Rattle.dev_memory.specs.Maker.{faults_of};
+    ghost use Rattle.std.specs.Arc.{arc_value};
+    ghost use Rattle.dev_memory.specs.Maker.{faults_of, ListsFrom};
 
-    pub(crate) fn new(alloc: Global, fails: Listed) -> MemMaker
-        ensures { faults_of result ≡ 0 }
+    pub(crate) fn new(alloc: Global, fails: Listed, reader_fails: Listed) -> MemMaker
+        ensures faults { faults_of result ≡ 0 }
+        ensures listed { ListsFrom (arc_value fails).items result }
     {
         MemMaker {
             alloc,
             fails,
+            reader_fails,
             count: 0,
             bytes: Vec::new(alloc),
             is_started: false,
@@ -45,7 +51,21 @@ impl MemMaker {
     }
 }
 
+// A sealed file with these bytes.
+fn sealed(alloc: Global, bytes: Vec<u8>, fails: &Listed) -> Result<MemSealed, Memory>
+    ensures { IfOk result (λ sealed. sealed.file ≡ bytes.items) }
+{
+    let file = SharedBytes::new(alloc, bytes)?;
+    let reader = MemReader::open(&file, fails)?;
+    Ok(MemSealed { file, reader })
+}
+
 impl FileMaker for MemMaker {
+    ghost use Rattle.std.specs.Prelude.{◌+◌, ◌<◌, is_some, OnOk, IsErrOf};
+    ghost use Rattle.std.specs.Option.{option_map};
+    ghost use Rattle.dev_traits.specs.Causes.{HasDevCause};
+    ghost use Rattle.dev_memory.specs.Maker.{maker_view, made_len, FailsOnly};
+
     type Sealed = MemSealed;
 
     ghost view = { λ m. record { made = Some m.bytes.items; is_started = m.is_started; faults = m.faults } };
@@ -56,7 +76,14 @@ impl FileMaker for MemMaker {
         self.faults
     }
 
-    fn start(&mut self) -> Result<(), DevError> {
+    fn start(&mut self) -> Result<(), DevError>
+        ensures started { OnOk result (IsTrue (maker_view self.new).is_started) }
+        ensures empty { OnOk result ((maker_view self.new).made ≡ option_map (λ _. []) (maker_view self.old).made) }
+        ensures tells { is_some (maker_view self.new).made ≡ is_some (maker_view self.old).made }
+        ensures never_absent { ¬ IsErrOf result DevError.Absent }
+        ensures cause { HasDevCause (maker_view self.old).faults (maker_view self.new).faults result }
+        ensures fails { FailsOnly ⊥ self.old self.new result }
+    {
         if strikes(&self.fails, None, &mut self.count, &mut self.faults) {
             return Err(DevError::Failed);
         }
@@ -65,7 +92,16 @@ impl FileMaker for MemMaker {
         Ok(())
     }
 
-    fn add(&mut self, piece: &[u8]) -> Result<(), DevError> {
+    fn add(&mut self, piece: &[u8]) -> Result<(), DevError>
+        requires { IsTrue (maker_view self.old).is_started }
+        ensures started { OnOk result (IsTrue (maker_view self.new).is_started) }
+        ensures added { OnOk result ((maker_view self.new).made ≡ option_map (λ made. made ++ piece.now) (maker_view self.old).made) }
+        ensures bound { OnOk result ((made : List ℕ) → (maker_view self.new).made ≡ Some made → length made ≤ 2 ^ 44) }
+        ensures tells { is_some (maker_view self.new).made ≡ is_some (maker_view self.old).made }
+        ensures never_absent { ¬ IsErrOf result DevError.Absent }
+        ensures cause { HasDevCause (maker_view self.old).faults (maker_view self.new).faults result }
+        ensures fails { FailsOnly (2 ^ 44 < made_len self.old + length piece.now) self.old self.new result }
+    {
         if strikes(&self.fails, None, &mut self.count, &mut self.faults) {
             return Err(DevError::Failed);
         }
@@ -79,14 +115,21 @@ impl FileMaker for MemMaker {
         }
     }
 
-    fn seal(&mut self) -> Result<MemSealed, DevError> {
+    fn seal(&mut self) -> Result<MemSealed, DevError>
+        requires { IsTrue (maker_view self.old).is_started }
+        ensures sealed { IfOk result (λ sealed. Some sealed.file ≡ (maker_view self.old).made) }
+        ensures tells { is_some (maker_view self.new).made ≡ is_some (maker_view self.old).made }
+        ensures never_absent { ¬ IsErrOf result DevError.Absent }
+        ensures cause { HasDevCause (maker_view self.old).faults (maker_view self.new).faults result }
+        ensures fails { FailsOnly ⊥ self.old self.new result }
+    {
         if strikes(&self.fails, None, &mut self.count, &mut self.faults) {
             return Err(DevError::Failed);
         }
         let bytes = mem::replace(&mut self.bytes, Vec::new(self.alloc));
         self.is_started = false;
-        match SharedBytes::new(self.alloc, bytes) {
-            Ok(file) => Ok(MemSealed { file }),
+        match sealed(self.alloc, bytes, &self.reader_fails) {
+            Ok(sealed) => Ok(sealed),
             Err(_) => Err(DevError::Memory),
         }
     }

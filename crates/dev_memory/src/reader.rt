@@ -1,11 +1,14 @@
-ghost use Rattle.std.specs.Prelude.{◌≡◌, ◌+◌, ◌^◌, ◌≤◌, ℕ, List, Some, length, refl};
+ghost use Rattle.std.specs.Prelude.{◌≡◌, ◌+◌, ◌^◌, ◌≤◌, ℕ, List, Some, IfOk, length, refl};
 ghost use Rattle.dev_traits.specs.Reader.{ReaderView};
 ghost use Rattle.dev_memory.specs.Told.{size_told};
 
 use crate::SharedBytes;
 use crate::faults::{Listed, strikes};
 use dev_traits::{Failed, Memory, SealedReader};
+use std::alloc::AllocError;
 use std::sync::Arc;
+
+const MOST: u64 = 1 << 44;
 
 /// A reader of a file in memory, which fails at the listed reads.
 #[derive(Drop)]
@@ -33,9 +36,26 @@ impl MemReader {
             reads: 0,
         }
     }
+
+    /// A reader of these bytes.
+    pub(crate) fn open(file: &SharedBytes, fails: &Listed) -> Result<MemReader, Memory>
+        ensures { IfOk result (λ reader. IsNew file.now reader) }
+    {
+        if file.as_slice().len() as u64 > MOST {
+            return Err(AllocError);
+        }
+        let shared = file.another()?;
+        let fails = Arc::try_clone(fails)?;
+        Ok(MemReader::new(shared, fails))
+    }
 }
 
 impl SealedReader for MemReader {
+    ghost use Rattle.std.specs.Prelude.{◌-◌, min, take, drop, OnOk};
+    ghost use Rattle.dev_traits.specs.Causes.{HasCause};
+    ghost use Rattle.dev_traits.specs.Reader.{SameFile};
+    ghost use Rattle.dev_memory.specs.Reader.{reader_view, FailsAsListed};
+
     ghost view = { λ r. record { bytes = Some r.file; size = length r.file; faults = r.faults; reads = r.reads } };
 
     ghost size_is_told = { λ r bytes is. size_told r.file bytes is };
@@ -50,7 +70,14 @@ impl SealedReader for MemReader {
         self.file.as_slice().len() as u64
     }
 
-    fn read_at(&mut self, at: u64, into: &mut [u8]) -> Result<(), Failed> {
+    fn read_at(&mut self, at: u64, into: &mut [u8]) -> Result<(), Failed>
+        requires { at + length into.old ≤ (reader_view self.old).size }
+        ensures bytes { OnOk result ((bytes : List ℕ) → (reader_view self.old).bytes ≡ Some bytes → into.new ≡ take (length into.old) (drop at bytes)) }
+        ensures same { SameFile (reader_view self.old) (reader_view self.new) }
+        ensures reads { (reader_view self.new).reads ≡ min ((reader_view self.old).reads + 1) (2 ^ 64 - 1) }
+        ensures cause { HasCause (reader_view self.old).faults (reader_view self.new).faults result }
+        ensures fails { FailsAsListed self.old self.new result }
+    {
         self.reads = self.reads.saturating_add(1);
         if strikes(&self.fails, None, &mut self.count, &mut self.faults) {
             return Err(Failed);

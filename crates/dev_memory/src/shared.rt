@@ -1,4 +1,4 @@
-ghost use Rattle.std.specs.Prelude.{◌≡◌, IfOk, length};
+ghost use Rattle.std.specs.Prelude.{◌≡◌, ◌<◌, IfOk, IsTrue, IsFalse, length, slice_set};
 
 use dev_traits::Memory;
 use std::alloc::Global;
@@ -42,5 +42,20 @@ impl SharedBytes {
         ensures { result.now ≡ self.now }
     {
         self.bytes.as_slice()
+    }
+
+    /// Changes a byte where there is no other owner, and tells whether it did.
+    pub fn change(&mut self, at: usize, byte: u8) -> bool
+        requires { at < length self.old }
+        ensures done { IsTrue result → self.new ≡ slice_set self.old at byte }
+        ensures same { IsFalse result → self.new ≡ self.old }
+    {
+        match Arc::get_mut(&mut self.bytes) {
+            Some(bytes) => {
+                bytes[at] = byte;
+                true
+            }
+            None => false,
+        }
     }
 }

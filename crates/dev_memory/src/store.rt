@@ -1,9 +1,9 @@
-ghost use Rattle.std.specs.Prelude.{◌≡◌, ◌^◌, ◌+◌, ◌≤◌, None, length, map, take, drop, IfOk, IsErrOf, OnErr, IsTrue, IsFalse, refl};
+ghost use Rattle.std.specs.Prelude.{◌≡◌, ◌^◌, ◌+◌, ◌≤◌, ◌<◌, None, length, map, take, drop, IfOk, IsErrOf, OnErr, IsTrue, IsFalse, refl};
 ghost use Rattle.std.specs.Ordering.{nat_cmp};
 ghost use Rattle.std.specs.FinMap.Entries.{find};
 ghost use Rattle.dev_traits.specs.Causes.{Rose};
 ghost use Rattle.dev_memory.specs.Laws.{counts, only, read_is_image, files_kept, empty_kept, three_read};
-ghost use Rattle.dev_memory.specs.Disk.{mem_view, disk_now, read_of, entries_at};
+ghost use Rattle.dev_memory.specs.Disk.{disk_now, read_of, entries_at};
 ghost use Rattle.dev_memory.specs.Kept.{IsValid, first_file};
 ghost use Rattle.dev_memory.specs.Reader.{IsNew, Opens};
 
@@ -46,20 +46,9 @@ fn fail(faults: &mut u64) -> Failed
 // Whether an area that a piece is written to is short enough then.
 fn is_within(at: u64, piece: &[u8]) -> bool
     ensures within { IsTrue result → at + length piece.now ≤ 2 ^ 44 }
+    ensures past { IsFalse result → 2 ^ 44 < at + length piece.now }
 {
     at <= MOST && piece.len() as u64 <= MOST - at
-}
-
-// A reader of a file.
-fn open_file(file: &SharedBytes, fails: &Listed) -> Result<MemReader, Memory>
-    ensures { IfOk result (λ reader. IsNew file.now reader) }
-{
-    if file.as_slice().len() as u64 > MOST {
-        return Err(AllocError);
-    }
-    let shared = file.another()?;
-    let fails = Arc::try_clone(fails)?;
-    Ok(MemReader::new(shared, fails))
 }
 
 // A reader of the file of a number.
@@ -70,7 +59,7 @@ fn open_number(kept: &Kept, number: u64, fails: &Listed) -> Result<MemReader, De
 {
     match kept.file(number) {
         None => Err(DevError::Absent),
-        Some(file) => match open_file(file, fails) {
+        Some(file) => match MemReader::open(file, fails) {
             Ok(reader) => Ok(reader),
             Err(_) => Err(DevError::Memory),
         },
@@ -86,11 +75,25 @@ fn copy_from(bytes: &[u8], at: u64, into: &mut [u8])
 }
 
 impl Store for MemStore {
+    ghost use Rattle.std.specs.Prelude.{◌-◌, ◌∷◌, [], min, ℕ, List, true, false, Some, IsSome, OnOk};
+    ghost use Rattle.std.specs.Option.{option_map};
+    ghost use Rattle.dev_traits.specs.Causes.{HasCause, HasDevCause};
+    ghost use Rattle.dev_traits.specs.Image.{area_of, file, overwritten, with_area, with_file, with_files_of, Same, TornIn, Blanked, Forgets, ForgetsSome};
+    ghost use Rattle.dev_traits.specs.Reader.{Fresh};
+    ghost use Rattle.dev_traits.specs.View.{Told, EachImage, Leaves, Calm, Spends, ReadsElsewhere};
+    ghost use Rattle.dev_memory.specs.Disk as disk;
+    ghost use Rattle.dev_memory.specs.Disk.{Wrote, Synced};
+    ghost use Rattle.dev_memory.specs.Kept.{grown, Adopts, forgotten};
+    ghost use Rattle.std.specs.Arc.{arc_value};
+    ghost use Rattle.dev_memory.specs.Maker.{maker_view, ListsFrom};
+    ghost use Rattle.dev_memory.specs.Reader.{reader_view};
+    ghost use Rattle.dev_memory.specs.Store.{view_of, held_of, disk_of, Counted, Uncounted, IsNextStruck, FailsOnly};
+
     type Maker = MemMaker;
 
     type Reader = MemReader;
 
-    ghost view = { λ s. mem_view s.kept.held s.is_honest s.faults s.kept.spare_calls s.kept.spare_bytes };
+    ghost view = { view_of };
 
     ghost counts_now = { λ s t image le may. counts s.kept.held t image le may };
 
@@ -110,11 +113,27 @@ impl Store for MemStore {
         self.faults
     }
 
-    fn room(&mut self, calls: u64, bytes: u64) -> Result<(), Memory> {
+    fn room(&mut self, calls: u64, bytes: u64) -> Result<(), Memory>
+        ensures calls { OnOk result (calls ≤ (view_of self.new).spare_calls) }
+        ensures bytes { OnOk result (bytes ≤ (view_of self.new).spare_bytes) }
+        ensures memory { calls ≤ (view_of self.old).spare_calls → bytes ≤ (view_of self.old).spare_bytes → OnErr result ⊥ }
+        ensures calm { Calm (view_of self.old) (view_of self.new) }
+        ensures faults { (view_of self.new).faults ≡ (view_of self.old).faults }
+        ensures kept { held_of self.new ≡ held_of self.old }
+        ensures uncounted { Uncounted self.old self.new }
+    {
         self.kept.room(calls, bytes)
     }
 
-    fn length(&mut self, area: u32) -> Result<u64, Failed> {
+    fn length(&mut self, area: u32) -> Result<u64, Failed>
+        requires { area < 3 }
+        ensures length { IfOk result (λ n. Told (view_of self.old) (λ image. n ≡ length (area_of image area))) }
+        ensures bound { IfOk result (λ n. n ≤ 2 ^ 44) }
+        ensures calm { Calm (view_of self.old) (view_of self.new) }
+        ensures cause { HasCause (view_of self.old).faults (view_of self.new).faults result }
+        ensures kept { held_of self.new ≡ held_of self.old }
+        ensures fails { FailsOnly (2 ^ 44 < length (area_of (read_of (disk_of self.old)) area)) self.old self.new result }
+    {
         if strikes(&self.fails, self.stop, &mut self.count, &mut self.faults) {
             return Err(Failed);
         }
@@ -125,7 +144,15 @@ impl Store for MemStore {
         Ok(length)
     }
 
-    fn read(&mut self, area: u32, at: u64, into: &mut [u8]) -> Result<(), Failed> {
+    fn read(&mut self, area: u32, at: u64, into: &mut [u8]) -> Result<(), Failed>
+        requires there { area < 3 }
+        requires inside { Told (view_of self.old) (λ image. at + length into.old ≤ length (area_of image area)) }
+        ensures bytes { OnOk result (Told (view_of self.old) (λ image. into.new ≡ take (length into.old) (drop at (area_of image area)))) }
+        ensures calm { Calm (view_of self.old) (view_of self.new) }
+        ensures cause { HasCause (view_of self.old).faults (view_of self.new).faults result }
+        ensures kept { held_of self.new ≡ held_of self.old }
+        ensures fails { FailsOnly ⊥ self.old self.new result }
+    {
         if strikes(&self.fails, self.stop, &mut self.count, &mut self.faults) {
             return Err(Failed);
         }
@@ -133,7 +160,22 @@ impl Store for MemStore {
         Ok(())
     }
 
-    fn write_at(&mut self, area: u32, at: u64, piece: &[u8]) -> Result<(), Failed> {
+    fn write_at(&mut self, area: u32, at: u64, piece: &[u8]) -> Result<(), Failed>
+        requires there { area < 3 }
+        requires calls { 1 ≤ (view_of self.old).spare_calls }
+        requires bytes { length piece.now ≤ (view_of self.old).spare_bytes }
+        requires inside { Told (view_of self.old) (λ image. (1 ≤ length (area_of image area)) × (at ≤ length (area_of image area))) }
+        ensures written { OnOk result ((view_of self.new).seen ≡ option_map (λ image. with_area area (overwritten (area_of image area) at piece.now) image) (view_of self.old).seen) }
+        ensures bound { OnOk result (at + length piece.now ≤ 2 ^ 44) }
+        ensures elsewhere { ReadsElsewhere area (view_of self.old) (view_of self.new) }
+        ensures spends { Spends 1 (length piece.now) (view_of self.old) (view_of self.new) }
+        ensures crash { Leaves (TornIn area at (length piece.now)) (view_of self.old) (view_of self.new) }
+        ensures cause { HasCause (view_of self.old).faults (view_of self.new).faults result }
+        ensures done { OnOk result (held_of self.new ≡ grown (held_of self.old) (Wrote area at piece.now true)) }
+        ensures undone { OnErr result (at + length piece.now ≤ 2 ^ 44 → held_of self.new ≡ grown (held_of self.old) (Wrote area at piece.now false)) }
+        ensures refused { 2 ^ 44 < at + length piece.now → held_of self.new ≡ held_of self.old }
+        ensures fails { FailsOnly (2 ^ 44 < at + length piece.now) self.old self.new result }
+    {
         let struck = strikes(&self.fails, self.stop, &mut self.count, &mut self.faults);
         if !is_within(at, piece) {
             return Err(fail(&mut self.faults));
@@ -146,7 +188,18 @@ impl Store for MemStore {
         Ok(())
     }
 
-    fn sync(&mut self, area: u32) -> Result<(), Failed> {
+    fn sync(&mut self, area: u32) -> Result<(), Failed>
+        requires there { area < 3 }
+        requires calls { 1 ≤ (view_of self.old).spare_calls }
+        ensures seen { (view_of self.new).seen ≡ (view_of self.old).seen }
+        ensures durable { OnOk result (Told (view_of self.new) (λ image. EachImage (view_of self.new) (λ left. area_of left area ≡ area_of image area))) }
+        ensures spends { Spends 1 0 (view_of self.old) (view_of self.new) }
+        ensures crash { Leaves Same (view_of self.old) (view_of self.new) }
+        ensures cause { HasCause (view_of self.old).faults (view_of self.new).faults result }
+        ensures done { OnOk result (held_of self.new ≡ grown (held_of self.old) (Synced area)) }
+        ensures undone { OnErr result (held_of self.new ≡ held_of self.old) }
+        ensures fails { FailsOnly ⊥ self.old self.new result }
+    {
         if strikes(&self.fails, self.stop, &mut self.count, &mut self.faults) {
             return Err(Failed);
         }
@@ -154,7 +207,19 @@ impl Store for MemStore {
         Ok(())
     }
 
-    fn blank(&mut self, area: u32) -> Result<(), Failed> {
+    fn blank(&mut self, area: u32) -> Result<(), Failed>
+        requires there { area < 3 }
+        requires calls { 1 ≤ (view_of self.old).spare_calls }
+        ensures blank { OnOk result ((view_of self.new).seen ≡ option_map (with_area area (0 ∷ [])) (view_of self.old).seen) }
+        ensures durable { OnOk result (EachImage (view_of self.new) (λ left. area_of left area ≡ 0 ∷ [])) }
+        ensures elsewhere { ReadsElsewhere area (view_of self.old) (view_of self.new) }
+        ensures spends { Spends 1 0 (view_of self.old) (view_of self.new) }
+        ensures crash { Leaves (Blanked area) (view_of self.old) (view_of self.new) }
+        ensures cause { HasCause (view_of self.old).faults (view_of self.new).faults result }
+        ensures done { OnOk result (held_of self.new ≡ grown (held_of self.old) (disk.Blanked area true)) }
+        ensures undone { OnErr result (held_of self.new ≡ grown (held_of self.old) (disk.Blanked area false)) }
+        ensures fails { FailsOnly ⊥ self.old self.new result }
+    {
         if strikes(&self.fails, self.stop, &mut self.count, &mut self.faults) {
             self.kept.fail_blank(area);
             return Err(Failed);
@@ -163,31 +228,69 @@ impl Store for MemStore {
         Ok(())
     }
 
-    fn maker(&mut self) -> Result<MemMaker, Memory> {
+    fn maker(&mut self) -> Result<MemMaker, Memory>
+        ensures maker { IfOk result (λ maker. ((maker_view maker).faults ≡ 0) × (IsSome (view_of self.old).seen → IsSome (maker_view maker).made)) }
+        ensures listed { IfOk result (ListsFrom (arc_value self.old.maker_fails).items) }
+        ensures calm { Calm (view_of self.old) (view_of self.new) }
+        ensures faults { (view_of self.new).faults ≡ (view_of self.old).faults }
+        ensures kept { held_of self.new ≡ held_of self.old }
+        ensures uncounted { Uncounted self.old self.new }
+    {
         let fails = Arc::try_clone(&self.maker_fails)?;
-        Ok(MemMaker::new(self.alloc, fails))
+        let reader_fails = Arc::try_clone(&self.reader_fails)?;
+        Ok(MemMaker::new(self.alloc, fails, reader_fails))
     }
 
-    fn adopt(&mut self, number: u64, sealed: MemSealed) -> Result<MemReader, Failed> {
+    fn adopt(&mut self, number: u64, sealed: MemSealed) -> Result<MemReader, Failed>
+        requires calls { 1 ≤ (view_of self.old).spare_calls }
+        requires new { Told (view_of self.old) (λ image. file image number ≡ None) }
+        ensures adopted { OnOk result ((bytes : List ℕ) → Some sealed.file ≡ Some bytes → (view_of self.new).seen ≡ option_map (with_file number bytes) (view_of self.old).seen) }
+        ensures not_adopted { OnErr result ((view_of self.new).seen ≡ (view_of self.old).seen) }
+        ensures durable { OnOk result ((bytes : List ℕ) → Some sealed.file ≡ Some bytes → EachImage (view_of self.new) (λ left. file left number ≡ Some bytes)) }
+        ensures reader { IfOk result (λ reader. Fresh (Some sealed.file) (reader_view reader)) }
+        ensures spends { Spends 1 0 (view_of self.old) (view_of self.new) }
+        ensures crash { Leaves Same (view_of self.old) (view_of self.new) }
+        ensures cause { HasCause (view_of self.old).faults (view_of self.new).faults result }
+        ensures done { OnOk result (Adopts number sealed.file (held_of self.old) (held_of self.new)) }
+        ensures undone { OnErr result (held_of self.new ≡ held_of self.old) }
+        ensures fails { FailsOnly ⊥ self.old self.new result }
+    {
         if strikes(&self.fails, self.stop, &mut self.count, &mut self.faults) {
             return Err(Failed);
         }
-        let MemSealed { file } = sealed;
-        let Ok(reader) = open_file(&file, &self.reader_fails) else {
-            return Err(fail(&mut self.faults));
-        };
+        let MemSealed { file, reader } = sealed;
         self.kept.adopt(number, file);
         Ok(reader)
     }
 
-    fn reader(&mut self, number: u64) -> Result<MemReader, DevError> {
+    fn reader(&mut self, number: u64) -> Result<MemReader, DevError>
+        ensures reader { IfOk result (λ reader. Told (view_of self.old) (λ image. Fresh (file image number) (reader_view reader))) }
+        ensures there { IfOk result (λ _. Told (view_of self.old) (λ image. IsSome (file image number))) }
+        ensures absent { Told (view_of self.old) (λ image. IsErrOf result DevError.Absent → file image number ≡ None) }
+        ensures calm { Calm (view_of self.old) (view_of self.new) }
+        ensures cause { HasDevCause (view_of self.old).faults (view_of self.new).faults result }
+        ensures kept { held_of self.new ≡ held_of self.old }
+        ensures counted { Counted self.old self.new }
+        ensures struck { IsNextStruck self.old → IsErrOf result DevError.Failed }
+        ensures only { IsErrOf result DevError.Failed → IsNextStruck self.old }
+    {
         if strikes(&self.fails, self.stop, &mut self.count, &mut self.faults) {
             return Err(DevError::Failed);
         }
         open_number(&self.kept, number, &self.reader_fails)
     }
 
-    fn forget_others(&mut self, keep: &[u64]) -> Result<(), Failed> {
+    fn forget_others(&mut self, keep: &[u64]) -> Result<(), Failed>
+        requires calls { 1 ≤ (view_of self.old).spare_calls }
+        ensures forgot { OnOk result ((view_of self.new).seen ≡ option_map (with_files_of keep.now) (view_of self.old).seen) }
+        ensures kept { Told (view_of self.old) (λ before. Told (view_of self.new) (ForgetsSome keep.now before)) }
+        ensures spends { Spends 1 0 (view_of self.old) (view_of self.new) }
+        ensures crash { Leaves (Forgets keep.now) (view_of self.old) (view_of self.new) }
+        ensures cause { HasCause (view_of self.old).faults (view_of self.new).faults result }
+        ensures done { OnOk result (held_of self.new ≡ forgotten keep.now (held_of self.old)) }
+        ensures undone { OnErr result (held_of self.new ≡ held_of self.old) }
+        ensures fails { FailsOnly ⊥ self.old self.new result }
+    {
         if strikes(&self.fails, self.stop, &mut self.count, &mut self.faults) {
             return Err(Failed);
         }
@@ -195,11 +298,23 @@ impl Store for MemStore {
         Ok(())
     }
 
-    fn give_back(&mut self, maker: MemMaker) {
+    fn give_back(&mut self, maker: MemMaker)
+        ensures calm { Calm (view_of self.old) (view_of self.new) }
+        ensures none { (maker_view maker).faults ≡ 0 → (view_of self.new).faults ≡ (view_of self.old).faults }
+        ensures counted { min ((view_of self.old).faults + (maker_view maker).faults) (2 ^ 64 - 1) ≤ (view_of self.new).faults }
+        ensures kept { held_of self.new ≡ held_of self.old }
+        ensures uncounted { Uncounted self.old self.new }
+    {
         self.faults = self.faults.saturating_add(maker.faults());
     }
 
-    fn give_back_reader(&mut self, reader: MemReader) {
+    fn give_back_reader(&mut self, reader: MemReader)
+        ensures calm { Calm (view_of self.old) (view_of self.new) }
+        ensures none { (reader_view reader).faults ≡ 0 → (view_of self.new).faults ≡ (view_of self.old).faults }
+        ensures counted { min ((view_of self.old).faults + (reader_view reader).faults) (2 ^ 64 - 1) ≤ (view_of self.new).faults }
+        ensures kept { held_of self.new ≡ held_of self.old }
+        ensures uncounted { Uncounted self.old self.new }
+    {
         self.faults = self.faults.saturating_add(reader.faults());
     }
 }
@@ -225,11 +340,16 @@ impl MemStore {
     ghost use Rattle.std.specs.List.{list_all};
     ghost use Rattle.dev_memory.specs.Disk.{settled_by};
     ghost use Rattle.dev_memory.specs.Kept.{at_first};
-    ghost use Rattle.dev_memory.specs.Store.{Begins, empty_image, image_of, view_of};
+    ghost use Rattle.std.specs.Prelude.{Some};
+    ghost use Rattle.dev_memory.specs.Crash.{AreSynced};
+    ghost use Rattle.dev_memory.specs.Images.{image_of};
+    ghost use Rattle.dev_memory.specs.Spoils.{Spoils};
+    ghost use Rattle.dev_memory.specs.Store.{Begins, Lists, empty_image, held_of, disk_of, view_of, SameCounts};
 
     /// A store of three empty areas, without a file.
     pub fn new(alloc: Global, faults: Faults) -> Result<MemStore, Memory>
-        ensures { IfOk result (λ store. Begins empty_image (view_of store)) }
+        ensures begins { IfOk result (λ store. Begins empty_image (view_of store)) }
+        ensures listed { IfOk result (λ store. Lists faults store) }
     {
         let mut areas = Vec::new(alloc);
         areas.push(Octets::from_vec(Vec::new(alloc)))?;
@@ -239,10 +359,40 @@ impl MemStore {
         MemStore::of_image(alloc, Image { areas, files }, faults)
     }
 
+    /// One of the images that a crash now may leave, by number: the image as it reads for 0, and for 1 each area as it was at its last sync.
+    ///
+    /// A number below 8 does the same to each write since the last sync of its area, and to each blanking that failed: 0 as it reads, 1 nothing
+    /// of it, 2 the old bytes with the new length, 3 the first half of it, 4 the second half, 5 all of it also where it failed, 6 its bytes
+    /// turned, 7 the old bytes turned. A greater number has a digit to the base of 8 for each call in turn, from another one on for each area. By an odd
+    /// number, files that were forgotten are there.
+    pub fn image(&self, alloc: Global, pick: u64) -> Result<Image, Memory>
+        ensures left { IfOk result (λ image. (view_of self.now).may_leave (image_of image)) }
+        ensures read { pick ≡ 0 → IfOk result (λ image. (view_of self.now).seen ≡ Some (image_of image)) }
+        ensures synced { pick ≡ 1 → IfOk result (λ image. AreSynced (disk_of self.now) (image_of image)) }
+    {
+        self.kept.image(alloc, pick)
+    }
+
+    /// Changes the byte at a place of an adopted file, and answers true: the store isn't honest from then on, reads the changed file, and leaves
+    /// it in crashes, too. It answers false, and changes nothing, where there is no such file or place, and where a reader of the file,
+    /// or another owner of its bytes, is still in hand: give it back first.
+    pub fn spoil(&mut self, number: u64, at: u64, byte: u8) -> bool
+        ensures spoilt { IsTrue result → Spoils number at byte (disk_of self.old) (disk_of self.new) }
+        ensures dishonest { IsTrue result → IsFalse (view_of self.new).is_honest }
+        ensures same { IsFalse result → held_of self.new ≡ held_of self.old }
+        ensures as_honest { IsFalse result → (view_of self.new).is_honest ≡ (view_of self.old).is_honest }
+        ensures counts { SameCounts (view_of self.old) (view_of self.new) }
+    {
+        let spoilt = self.kept.spoil(number, at, byte);
+        self.is_honest = self.is_honest && !spoilt;
+        spoilt
+    }
+
     /// A store that a crash left as this image. Of each number the first file counts.
     pub fn of_image(alloc: Global, image: Image, faults: Faults) -> Result<MemStore, Memory>
         requires { length image.areas.items ≡ 3 }
-        ensures { IfOk result (λ store. Begins (image_of image) (view_of store)) }
+        ensures begins { IfOk result (λ store. Begins (image_of image) (view_of store)) }
+        ensures listed { IfOk result (λ store. Lists faults store) }
     {
         let files = files_of(alloc, image.files)?;
         let kept = Kept::new(alloc, image.areas, files)?;

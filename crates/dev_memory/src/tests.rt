@@ -1,3 +1,5 @@
+ghost use Rattle.std.specs.Prelude.{◌<◌};
+
 use super::*;
 use dev_traits::{
     Asked, DevError, FileMaker, Inputs, Put, SealedReader, Sink, Source, Store, Taken,
@@ -54,6 +56,34 @@ fn listed(alloc: Global, store: &[u64], stop: Option<u64>) -> Result<Faults, All
     })
 }
 
+// Takes a sealed file in where the store has none of its number.
+fn adopt_new<S: Store>(
+    store: &mut S,
+    number: u64,
+    sealed: <S::Maker as FileMaker>::Sealed,
+) -> Option<S::Reader> {
+    if store.room(1, 0).is_err() {
+        return None;
+    }
+    match store.reader(number) {
+        Err(DevError::Absent) => store.adopt(number, sealed).ok(),
+        _ => None,
+    }
+}
+
+// Writes over an area that is long enough.
+fn write_inside<S: Store>(store: &mut S, area: u32, at: u64, piece: &[u8]) -> bool
+    requires { area < 3 }
+{
+    if store.room(1, piece.len() as u64).is_err() {
+        return false;
+    }
+    match store.length(area) {
+        Ok(length) => 1 <= length && at <= length && store.write_at(area, at, piece).is_ok(),
+        Err(_) => false,
+    }
+}
+
 #[test]
 fn a_store_keeps_areas_and_files(rt: HostRuntime) -> Result<(), Fail> {
     let alloc = rt.alloc();
@@ -72,13 +102,13 @@ fn a_store_keeps_areas_and_files(rt: HostRuntime) -> Result<(), Fail> {
         return Ok(());
     };
     store.give_back(maker);
-    assert!(rt; matches!(store.reader(7), Err(DevError::Absent)));
-    let Ok(reader) = store.adopt(7, sealed) else {
+    let Some(reader) = adopt_new(&mut store, 7, sealed) else {
         assert!(rt; false);
         return Ok(());
     };
     assert_eq!(rt; reader.length(), 6);
     store.give_back_reader(reader);
+    store.room(2, 0)?;
     assert_eq!(rt; store.forget_others(&[7]), Ok(()));
     assert!(rt; store.reader(7).is_ok());
     assert_eq!(rt; store.forget_others(&[]), Ok(()));
@@ -108,5 +138,76 @@ fn a_store_fails_exactly_where_it_is_listed(rt: HostRuntime) -> Result<(), Fail>
         let failed = want.iter().filter(|ok| !**ok).count();
         assert_eq!(rt; store.faults(), failed as u64);
     }
+    Ok(())
+}
+
+// The first area of an image.
+fn first_area(image: &Image) -> &[u8] {
+    match image.areas.first() {
+        Some(area) => area.as_slice(),
+        None => b"",
+    }
+}
+
+#[test]
+fn a_crash_leaves_some_of_a_write(rt: HostRuntime) -> Result<(), Fail> {
+    let alloc = rt.alloc();
+    let mut store = MemStore::new(alloc, Faults::none(alloc))?;
+    store.room(1, 0)?;
+    assert_eq!(rt; store.blank(0), Ok(()));
+    assert!(rt; write_inside(&mut store, 0, 1, b"abcd"));
+    store.room(1, 0)?;
+    assert_eq!(rt; store.sync(0), Ok(()));
+    assert!(rt; write_inside(&mut store, 0, 3, b"wxyz"));
+    for (pick, want) in [
+        (0, b"\0abwxyz".as_slice()),
+        (1, b"\0abcd".as_slice()),
+        (2, b"\0abcd\0\0".as_slice()),
+        (3, b"\0abwx".as_slice()),
+        (4, b"\0abcdyz".as_slice()),
+        (5, b"\0abwxyz".as_slice()),
+        (6, b"\0ab\x88\x87\x86\x85".as_slice()),
+        (7, b"\0ab\x9c\x9b\xff\xff".as_slice()),
+    ] {
+        let image = store.image(alloc, pick)?;
+        assert_eq!(rt; first_area(&image), want, "at {pick}");
+    }
+    Ok(())
+}
+
+fn with_file(alloc: Global, number: u64, bytes: &[u8]) -> Result<MemStore, AllocError> {
+    let mut areas = Vec::new(alloc);
+    areas.push(Octets::from_slice(alloc, b"")?)?;
+    areas.push(Octets::from_slice(alloc, b"")?)?;
+    areas.push(Octets::from_slice(alloc, b"")?)?;
+    let mut files = Vec::new(alloc);
+    files.push((number, Octets::from_slice(alloc, bytes)?))?;
+    MemStore::of_image(alloc, Image { areas, files }, Faults::none(alloc))
+}
+
+#[test]
+fn a_byte_of_a_file_is_spoilt(rt: HostRuntime) -> Result<(), Fail> {
+    let alloc = rt.alloc();
+    let mut store = with_file(alloc, 7, b"abc")?;
+    assert!(rt; store.spoil(7, 1, b'x'));
+    assert!(rt; !store.spoil(7, 3, b'x'));
+    assert!(rt; !store.spoil(8, 0, b'x'));
+    let Ok(mut reader) = store.reader(7) else {
+        assert!(rt; false);
+        return Ok(());
+    };
+    assert!(rt; !store.spoil(7, 0, b'x'));
+    let mut bytes = [0u8; 3];
+    assert_eq!(rt; reader.length(), 3);
+    if reader.length() == 3 {
+        assert_eq!(rt; reader.read_at(0, &mut bytes), Ok(()));
+    }
+    assert_eq!(rt; bytes.as_slice(), b"axc".as_slice());
+    store.give_back_reader(reader);
+    assert!(rt; store.spoil(7, 0, b'x'));
+    let image = store.image(alloc, 0)?;
+    assert!(rt;
+        matches!(image.files.first(), Some(file) if file.0 == 7 && file.1.as_slice() == b"xxc".as_slice())
+    );
     Ok(())
 }

@@ -8,5 +8,5 @@ use Rattle.dev_memory.proofs.store.MemStore.of_image.Goals as goal
 pub new-requires-clause-settled : goal.new-requires-clause-settled
 new-requires-clause-settled c = ap (list_all (settled_by 0)) c.in_ok-files.ensures ∙ first-settled c.args.image.files.items
 
-pub returns : goal.returns
-returns c = begins c.args.image.areas.items c.args.image.files.items c.in_ok-kept.kept.held c.in_ok-kept.kept.spare_calls c.in_ok-kept.kept.spare_bytes (c.in_ok-kept.ensures.held ∙ ap (at_first c.args.image.areas.items) c.in_ok-files.ensures)
+pub returns-clause-begins : goal.returns-clause-begins
+returns-clause-begins c = begins c.args.image.areas.items c.args.image.files.items c.in_ok-kept.kept.held c.in_ok-kept.kept.spare_calls c.in_ok-kept.kept.spare_bytes (c.in_ok-kept.ensures.held ∙ ap (at_first c.args.image.areas.items) c.in_ok-files.ensures)
