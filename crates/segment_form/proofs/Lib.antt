@@ -1,0 +1,7 @@
+pub mod Fitting
+pub mod Sizes
+pub mod Bodies
+pub mod Marks
+pub mod Blocks
+pub mod Tails
+pub mod Rising

@@ -1,0 +1,11 @@
+pub mod Growing
+pub mod Sized
+pub mod ColumnFacts
+pub mod ReadingRows
+pub mod Rising
+pub mod BlockFacts
+pub mod FooterFacts
+pub mod TailFacts
+pub mod Scanning
+pub mod Whole
+pub mod Intact

@@ -1,0 +1,19 @@
+use Rattle.std.proofs.Common.{◌≡◌, ◌+◌, ◌≤◌, All, IsTrue}
+use Rattle.pk_values.specs.Schemas.{fits_row}
+use Rattle.dev_traits.specs.Reader.{SameFile}
+use Rattle.segment_form.specs.Segments.{KeysRise}
+use Rattle.segment_read.specs.Reads.{Told}
+use Rattle.segment_read.specs.Rows.{AreRowsBefore}
+use Rattle.segment_read.proofs.scans.rows_of.Given as goal
+
+abbrev pub invariant-loop-b : goal.invariant-loop-b
+invariant-loop-b g l = record {
+  fit : All (λ row. IsTrue (fits_row l.schema row)) l.rows.items;
+  rise : KeysRise l.schema l.rows.items;
+  number : l.segment.number ≡ l.fn.segment.number;
+  kept : l.segment.footer ≡ l.fn.segment.footer;
+  same : SameFile (g.R.SealedReader.view l.fn.segment.reader) (g.R.SealedReader.view l.segment.reader);
+  reads : (g.R.SealedReader.view l.segment.reader).reads ≤ (g.R.SealedReader.view l.fn.segment.reader).reads + l.b;
+  later : (g.R.SealedReader.view l.fn.segment.reader).faults ≤ (g.R.SealedReader.view l.segment.reader).faults;
+  read : Told (g.R.SealedReader.view l.fn.segment.reader) (λ file. AreRowsBefore l.schema l.fn.segment.footer file l.b l.rows.items);
+}

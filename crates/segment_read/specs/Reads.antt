@@ -1,0 +1,61 @@
+-- What calls that read do to a reader, and what they tell.
+use Rattle.std.specs.Prelude.{◌≡◌, ℕ, ◌+◌, ◌≤◌, List, take, drop, Some, slice_get, Result, IsErrOf, ⊤}
+use Rattle.pk_values.specs.Schemas.{Layout}
+use Rattle.column_page.specs.declared.footers.BlockMark.{BlockMark}
+use Rattle.column_page.specs.declared.footers.Footer.{Footer}
+use Rattle.dev_traits.specs.Causes.{Rose}
+use Rattle.dev_traits.specs.Reader.{ReaderView, SameFile}
+use Rattle.dev_traits.specs.declared.faults.Damaged.{Damaged}
+use Rattle.dev_traits.specs.declared.faults.Part.{Part}
+use Rattle.dev_traits.specs.declared.faults.Shown.{Shown}
+use Rattle.dev_traits.specs.declared.faults.ReadFault.{ReadFault}
+use Rattle.dev_traits.specs.declared.faults.ReadFault.TheVariants as read
+use Rattle.segment_read.specs.declared.faults.PartFault.{PartFault}
+use Rattle.segment_read.specs.declared.faults.PartFault.TheVariants as parts
+use Rattle.segment_read.specs.Footers.{HasFooter}
+
+-- where a reader tells the bytes of its file, this holds of them
+abbrev pub Told : ReaderView → (List ℕ → Type 0) → Type 0
+Told reader P = (file : List ℕ) → reader.bytes ≡ Some file → P file
+
+-- where the reader tells, the footer is that of its file
+abbrev pub KnowsFooter : Layout → ReaderView → Footer → Type 0
+KnowsFooter s reader f = Told reader (HasFooter s f)
+
+-- this holds of what a footer tells of the block in place b
+abbrev pub OfBlock : Footer → ℕ → (BlockMark → Type 0) → Type 0
+OfBlock f b P = (mark : BlockMark) → slice_get f.blocks b ≡ Some mark → P mark
+
+-- the bytes of a block and its digest
+abbrev pub block_in : List ℕ → BlockMark → List ℕ
+block_in file mark = take (mark.length + 32) (drop mark.place file)
+
+-- a reader of the same file, after at most so many reads more
+pub record ReadsOn (most : ℕ) (old new : ReaderView) : Type 0 where
+  pub same : SameFile old new
+  pub reads : new.reads ≤ old.reads + most
+  pub later : old.faults ≤ new.faults
+
+-- a call that reads at most so often, and tells a fault of the device only where the reader counted one
+pub record Reading {T : Type 0} (most : ℕ) (old new : ReaderView) (result : Result T ReadFault) : Type 0 where
+  pub same : SameFile old new
+  pub reads : new.reads ≤ old.reads + most
+  pub later : old.faults ≤ new.faults
+  pub failed : IsErrOf result read.StoreFault → Rose old.faults new.faults
+
+-- a damage of this part of this file, which shows so
+pub record IsDamage (file : ℕ) (part : Part) (Shows : Shown → Type 0) (damaged : Damaged) : Type 0 where
+  pub file_is : damaged.file ≡ file
+  pub part_is : damaged.part ≡ part
+  pub shows : Shows damaged.shown
+
+-- of what a fault tells as damage
+abbrev pub OnDamage : ReadFault → (Damaged → Type 0) → Type 0
+OnDamage (read.Damaged damaged) P = P damaged
+OnDamage read.StoreFault P = ⊤
+OnDamage read.Memory P = ⊤
+
+-- the fault of a part, as a fault of its file
+abbrev pub fault_of : ℕ → Part → PartFault → ReadFault
+fault_of file part (parts.Damaged shown) = read.Damaged (record { file = file; part = part; shown = shown })
+fault_of file part parts.Memory = read.Memory

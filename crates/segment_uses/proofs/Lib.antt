@@ -1,0 +1,3 @@
+pub mod SameRows
+pub mod NoDamage
+pub mod Reading

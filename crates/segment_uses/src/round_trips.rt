@@ -1,0 +1,117 @@
+ghost use Rattle.std.specs.Prelude.{◌≡◌, ◌≢◌, ◌⊎◌, OnErr, ◌≤◌, ◌-◌, ◌^◌, min, ℕ, List, Some, None, IfOk, OnOk, IsErrOf};
+ghost use Rattle.dev_traits.specs.Causes.{Rose};
+ghost use Rattle.dev_traits.specs.Image.{file, with_file};
+ghost use Rattle.dev_traits.specs.View.{EachImage, Told};
+ghost use Rattle.dev_traits.specs.Reader.{Fresh};
+ghost use Rattle.dev_traits.specs.declared.faults.Damaged.{Damaged};
+ghost use Rattle.dev_traits.specs.declared.faults.MakeFault.TheVariants as make;
+ghost use Rattle.dev_traits.specs.declared.faults.OutsideFault.TheVariants as outside;
+ghost use Rattle.dev_traits.specs.declared.faults.ReadFault.TheVariants as read;
+ghost use Rattle.segment_form.specs.Segments.{AreSegmentRows, segment_file};
+ghost use Rattle.segment_read.specs.Reads.{Told as FileTold};
+
+use dev_traits::{FileMaker, MakeFault, OutsideFault, ReadFault, SealedReader, Store};
+use pk_values::{Row, Schema};
+use segment_read::{attach, rows_of};
+use segment_write::write_segment;
+use std::alloc::Global;
+
+// The sealed file of these rows.
+fn sealed_rows<S: Store>(
+    alloc: Global,
+    store: &mut S,
+    schema: &Schema,
+    rows: &[Row],
+) -> Result<<S::Maker as FileMaker>::Sealed, MakeFault>
+    requires { AreSegmentRows schema.now rows.now }
+    ensures sealed { IfOk result (λ sealed. (bytes : List ℕ) → S.Maker.sealed_bytes sealed ≡ Some bytes → bytes ≡ segment_file schema.now rows.now) }
+    ensures seen { (S.view store.new).seen ≡ (S.view store.old).seen }
+    ensures later { min (S.view store.old).faults (2 ^ 64 - 1) ≤ (S.view store.new).faults }
+    ensures cause { IsErrOf result make.StoreFault → Rose (S.view store.old).faults (S.view store.new).faults }
+{
+    let mut maker = store.maker()?;
+    let made = write_segment(alloc, &mut maker, schema, rows);
+    store.give_back(maker);
+    Ok(made?.sealed)
+}
+
+// The file of these rows, taken in by the store.
+fn adopted_rows<S: Store>(
+    alloc: Global,
+    store: &mut S,
+    schema: &Schema,
+    number: u64,
+    rows: &[Row],
+) -> Result<S::Reader, MakeFault>
+    requires rows { AreSegmentRows schema.now rows.now }
+    requires new { Told (S.view store.old) (λ image. file image number ≡ None) }
+    ensures reader { IfOk result (λ reader. Told (S.view store.old) (λ _. Fresh (Some (segment_file schema.now rows.now)) (S.Reader.view reader))) }
+    ensures unread { IfOk result (λ reader. (S.Reader.view reader).faults ≡ 0) }
+    ensures kept { OnOk result (Told (S.view store.old) (λ image. (S.view store.new).seen ≡ Some (with_file number (segment_file schema.now rows.now) image))) }
+    ensures durable { OnOk result (Told (S.view store.old) (λ _. EachImage (S.view store.new) (λ left. file left number ≡ Some (segment_file schema.now rows.now)))) }
+    ensures not_kept { OnErr result ((S.view store.new).seen ≡ (S.view store.old).seen) }
+    ensures later { min (S.view store.old).faults (2 ^ 64 - 1) ≤ (S.view store.new).faults }
+    ensures cause { IsErrOf result make.StoreFault → Rose (S.view store.old).faults (S.view store.new).faults }
+{
+    let sealed = sealed_rows(alloc, store, schema, rows)?;
+    store.room(1, 0)?;
+    match store.adopt(number, sealed) {
+        Ok(reader) => Ok(reader),
+        Err(_) => Err(MakeFault::StoreFault),
+    }
+}
+
+// The rows of the file of a reader, which may be the file of these rows.
+fn read_rows<R: SealedReader>(
+    alloc: Global,
+    schema: &Schema,
+    number: u64,
+    reader: R,
+    _rows: &[Row],
+) -> (R, Result<Vec<Row>, ReadFault>)
+    requires { AreSegmentRows schema.now _rows.now }
+    ensures same { IfOk result.1 (λ found. FileTold (R.view reader) (λ file. file ≡ segment_file schema.now _rows.now → found.items ≡ _rows.now)) }
+    ensures damage { (damaged : Damaged) → IsErrOf result.1 (read.Damaged damaged) → FileTold (R.view reader) (λ file. file ≢ segment_file schema.now _rows.now) }
+    ensures cause { IsErrOf result.1 read.StoreFault → Rose (R.view reader).faults (R.view result.0).faults }
+{
+    // No schema has a fault.
+    let _columns = schema.columns();
+    match attach(alloc, schema, number, reader) {
+        Ok(mut segment) => {
+            let found = rows_of(alloc, schema, &mut segment);
+            (segment.reader, found)
+        }
+        Err((reader, fault)) => (reader, Err(fault)),
+    }
+}
+
+/// Writes 1 to 65,536 rows with rising keys as a file of the store, under a number that no file of the store has, and reads them back.
+///
+/// # Errors
+/// `Fault` where the store, its maker or its reader failed, and the store counted it. `Damaged` only
+/// where the store doesn't tell its bytes. `Memory`.
+pub fn write_and_read<S: Store>(
+    alloc: Global,
+    store: &mut S,
+    schema: &Schema,
+    number: u64,
+    rows: &[Row],
+) -> Result<Vec<Row>, OutsideFault>
+    requires rows { AreSegmentRows schema.now rows.now }
+    requires new { Told (S.view store.old) (λ image. file image number ≡ None) }
+    ensures same { IfOk result (λ found. Told (S.view store.old) (λ _. found.items ≡ rows.now)) }
+    ensures kept { OnOk result (Told (S.view store.old) (λ image. (S.view store.new).seen ≡ Some (with_file number (segment_file schema.now rows.now) image))) }
+
+    // A crash from then on leaves the file.
+    ensures durable { OnOk result (Told (S.view store.old) (λ _. EachImage (S.view store.new) (λ left. file left number ≡ Some (segment_file schema.now rows.now)))) }
+
+    // After an error the store has the file or doesn't, and all else is as it was.
+    ensures left { OnErr result (Told (S.view store.old) (λ image. ((S.view store.new).seen ≡ Some image) ⊎ ((S.view store.new).seen ≡ Some (with_file number (segment_file schema.now rows.now) image)))) }
+    ensures damage { (damaged : Damaged) → IsErrOf result (outside.Damaged damaged) → (S.view store.old).seen ≡ None }
+    ensures cause { IsErrOf result outside.Fault → Rose (S.view store.old).faults (S.view store.new).faults }
+{
+    let reader = adopted_rows(alloc, store, schema, number, rows)?;
+    let (reader, found) = read_rows(alloc, schema, number, reader, rows);
+    store.give_back_reader(reader);
+    Ok(found?)
+}

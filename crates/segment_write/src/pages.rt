@@ -1,0 +1,77 @@
+ghost use Rattle.std.specs.Prelude.{◌≡◌, ◌<◌, ◌≤◌, ◌^◌, ◌∷◌, [], ◌++◌, All, IsTrue, IfOk, OnOk, length};
+ghost use Rattle.pk_values.specs.Schemas.{fits_row, is_kind};
+ghost use Rattle.column_page.specs.Footers.{mark_of, u32_bytes};
+ghost use Rattle.column_page.specs.Page.{page_of, AllFit};
+ghost use Rattle.segment_form.specs.Segments.{block_body, marks_of, sized};
+
+use byteorder::{BigEndian, ByteOrder};
+use column_page::{ColumnMark, encode_page, mark_of};
+use pk_values::{Column, Items, Row, Schema, Value};
+use segment_form::cells_of;
+use std::alloc::{AllocError, Global};
+
+/// The pages of a block, each behind its length, and the marks of its columns.
+#[derive(Drop)]
+pub struct Pages {
+    pub bytes: Vec<u8>,
+    pub marks: Items<ColumnMark>,
+}
+
+/// Appends a number in four bytes, the high one first.
+#[tactic(auto, unfolding(column_page::specs::Footers::u32_bytes))]
+pub fn put_u32(out: &mut Vec<u8>, number: u32) -> Result<(), AllocError>
+    ensures { OnOk result (out.new.items ≡ out.old.items ++ u32_bytes number) }
+{
+    let mut bytes = [0; 4];
+    BigEndian::write_u32(&mut bytes, number);
+    out.extend_from_slice(&bytes)
+}
+
+// Appends the length of a page and the page.
+fn put_sized(out: &mut Vec<u8>, page: &[u8]) -> Result<(), AllocError>
+    requires { length page.now < 2 ^ 32 }
+    ensures { OnOk result (out.new.items ≡ out.old.items ++ sized page.now) }
+{
+    put_u32(out, page.len() as u32)?;
+    out.extend_from_slice(page)
+}
+
+// Adds the page and the mark of one more column.
+fn put_column(
+    alloc: Global,
+    pages: &mut Pages,
+    column: &Column,
+    cells: &[Value],
+) -> Result<(), AllocError>
+    requires kind { IsTrue (is_kind column.now.kind) }
+    requires some { 1 ≤ length cells.now }
+    requires few { length cells.now ≤ 1024 }
+    requires fits { AllFit column.now cells.now }
+    ensures bytes { OnOk result (pages.new.bytes.items ≡ pages.old.bytes.items ++ sized (page_of column.now cells.now)) }
+    ensures marks { OnOk result (pages.new.marks ≡ pages.old.marks ++ mark_of cells.now ∷ []) }
+{
+    let page = encode_page(alloc, column, cells)?;
+    put_sized(&mut pages.bytes, page.as_slice())?;
+    pages.marks.push(mark_of(cells))
+}
+
+/// The pages of a block of 1 to 1,024 rows.
+pub fn block_pages(alloc: Global, schema: &Schema, rows: &[Row]) -> Result<Pages, AllocError>
+    requires fit { All (λ row. IsTrue (fits_row schema.now row)) rows.now }
+    requires some { 1 ≤ length rows.now }
+    requires few { length rows.now ≤ 1024 }
+    ensures bytes { IfOk result (λ pages. pages.bytes.items ≡ block_body schema.now rows.now) }
+    ensures marks { IfOk result (λ pages. pages.marks ≡ marks_of 0 schema.now.columns rows.now) }
+    ensures short { OnOk result (length (block_body schema.now rows.now) < 2 ^ 32) }
+{
+    let mut pages = Pages {
+        bytes: Vec::new(alloc),
+        marks: Items::new(alloc),
+    };
+    let columns = schema.columns();
+    for (i, column) in columns.iter().enumerate() {
+        let cells = cells_of(alloc, schema, i as u32, rows)?;
+        put_column(alloc, &mut pages, column, &cells)?;
+    }
+    Ok(pages)
+}

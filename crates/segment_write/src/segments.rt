@@ -1,0 +1,81 @@
+ghost use Rattle.std.specs.Prelude.{◌≡◌, ℕ, List, Some, IfOk, IsTrue, is_some, length};
+ghost use Rattle.column_page.specs.FooterReading.{FooterFits};
+ghost use Rattle.column_page.specs.Footers.{is_footer};
+ghost use Rattle.segment_form.specs.Segments.{AreSegmentRows, block_marks, blocks_of, footer_of, segment_file, tail_of};
+ghost use Rattle.segment_write.specs.Making.{Adds, HasMakeCause, MakeStep};
+
+use crate::blocks::put_blocks;
+use crate::pages::put_u32;
+use column_page::{BlockMark, Footer, write_footer};
+use dev_traits::{FileMaker, MakeFault};
+use pk_values::{Items, Row, Schema};
+use std::alloc::{AllocError, Global};
+
+/// A segment that was made: the sealed file and its footer.
+#[derive(Drop)]
+pub struct Made<X> {
+    pub sealed: X,
+    pub footer: Footer,
+}
+
+// The footer of the rows of a segment, whose blocks have these marks.
+fn footer_of(schema: &Schema, rows: &[Row], marks: Items<BlockMark>) -> Footer
+    requires rows { AreSegmentRows schema.now rows.now }
+    requires marks { marks ≡ block_marks schema.now 0 (blocks_of rows.now) }
+    ensures footer { result ≡ footer_of schema.now rows.now }
+    ensures fits { FooterFits result }
+    ensures is_footer { IsTrue (is_footer result) }
+{
+    let columns = schema.columns();
+    Footer::new(columns.len() as u32, rows.len() as u32, marks)
+}
+
+// The bytes of a footer and their number.
+fn tail(alloc: Global, footer: &Footer) -> Result<Vec<u8>, AllocError>
+    requires fits { FooterFits footer.now }
+    requires is_footer { IsTrue (is_footer footer.now) }
+    ensures { IfOk result (λ tail. tail.items ≡ tail_of footer.now) }
+{
+    let mut tail = write_footer(alloc, footer)?.into_vec();
+    let length = tail.len() as u32;
+    put_u32(&mut tail, length)?;
+    Ok(tail)
+}
+
+/// Makes a file of the segment of these rows: blocks of 1,024 rows, the last one of 1 to 1,024, and
+/// the footer with its length. A block has a page for each column in the order of the schema, each
+/// behind its length in four bytes, and then the SHA-256 digest of all that. A file that the maker
+/// had begun is dropped.
+///
+/// # Errors
+/// `StoreFault` only where the maker failed and counted it, and `Memory`. The maker is then as it
+/// was left by the call of it that failed: begin the next file with `start`.
+pub fn write_segment<M: FileMaker>(
+    alloc: Global,
+    maker: &mut M,
+    schema: &Schema,
+    rows: &[Row],
+) -> Result<Made<M::Sealed>, MakeFault>
+    requires { AreSegmentRows schema.now rows.now }
+    ensures footer { IfOk result (λ made. made.footer ≡ footer_of schema.now rows.now) }
+    ensures sealed { IfOk result (λ made. (bytes : List ℕ) → M.sealed_bytes made.sealed ≡ Some bytes
+        → bytes ≡ segment_file schema.now rows.now) }
+
+    // Where the maker tells its bytes, so does the file.
+    ensures told { IfOk result (λ made. is_some (M.sealed_bytes made.sealed) ≡ is_some (M.view maker.old).made) }
+
+    // The footer can be read back.
+    ensures fits { IfOk result (λ made. FooterFits made.footer) }
+    ensures is_footer { IfOk result (λ made. IsTrue (is_footer made.footer)) }
+
+    ensures tells { is_some (M.view maker.new).made ≡ is_some (M.view maker.old).made }
+    ensures cause { HasMakeCause (M.view maker.old).faults (M.view maker.new).faults result }
+{
+    maker.start()?;
+    let marks = put_blocks(alloc, maker, schema, rows)?;
+    let footer = footer_of(schema, rows, marks);
+    let tail = tail(alloc, &footer)?;
+    maker.add(&tail)?;
+    let sealed = maker.seal()?;
+    Ok(Made { sealed, footer })
+}
