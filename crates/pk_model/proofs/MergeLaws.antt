@@ -104,7 +104,7 @@ await-next : (a : Op) (ops : List Op) (es : List Pair) → T (rise (a ∷ ops)) 
 await-next a [] es h u = tt
 await-next a (b ∷ ops) es h u = run.up_to-later (key_named a) (key_named b) es (run.first _ _ h) u
 
-rise-next : (a : Op) (ops : List Op) → T (rise (a ∷ ops)) → T (rise ops)
+pub rise-next : (a : Op) (ops : List Op) → T (rise (a ∷ ops)) → T (rise ops)
 rise-next a [] h = tt
 rise-next a (b ∷ ops) h = run.second _ _ h
 

@@ -1,6 +1,7 @@
 -- Which loads a table takes.
-use Rattle.std.specs.Prelude.{ℕ, ◌+◌, ◌≤◌, List, [], ◌∷◌, length, drop, slice_get, Option, Some, None, is_some, Bool as Truth, true, false, ◌&&◌, ◌||◌, not, ◌==◌, nat_le, nat_lt, IsTrue}
+use Rattle.std.specs.Prelude.{All, ℕ, ◌+◌, ◌≤◌, List, [], ◌∷◌, length, drop, slice_get, Option, Some, None, is_some, Bool as Truth, true, false, ◌&&◌, ◌||◌, not, ◌==◌, nat_le, nat_lt, IsTrue}
 use Rattle.std.specs.List.{list_all, list_any}
+use Rattle.key_code.specs.KeyCode.{key_code}
 use Rattle.pk_values.specs.Fits.{fits}
 use Rattle.pk_values.specs.Schemas.{Layout, fits_key}
 use Rattle.pk_values.specs.declared.cells.Value.{Value}
@@ -8,6 +9,7 @@ use Rattle.pk_values.specs.declared.cells.Column.{Column}
 use Rattle.pk_model.specs.declared.calls.Op.{Op}
 use Rattle.pk_model.specs.declared.calls.Op.TheVariants.{Upsert, Delete}
 use Rattle.pk_model.specs.declared.calls.Load.{Load}
+use Rattle.pk_model.specs.Tables.{key_named}
 
 -- a load has at most so many lines
 abbrev pub most_lines : ℕ
@@ -42,9 +44,18 @@ abbrev pub fits_line : Layout → List ℕ → Op → Truth
 fits_line s given (Delete key) = fits_key s key
 fits_line s given (Upsert key cells) = fits_key s key && fits_given s given cells
 
--- the carried columns are a rising list of columns outside the key with each needed one among them, keys and cells fit, and there are not too many lines. That a key's code has at most 128 bytes is asked with the codes of keys
+-- a key's code has at most so many bytes
+abbrev pub most_bytes : ℕ
+most_bytes = 128
+
+-- the key that a line names has a code that is short enough
+abbrev pub HasShortKey : Layout → Op → Type 0
+HasShortKey s op = length (key_code s (key_named op)) ≤ most_bytes
+
+-- the carried columns are a rising list of columns outside the key with each needed one among them, keys and cells fit, no key's code is too long, and there are not too many lines
 pub record IsLawful (s : Layout) (load : Load) : Type 0 where
   pub given : IsTrue (rise_within s.keys (length s.columns) load.given)
   pub needed : IsTrue (carries_needed load.given s.keys (drop s.keys s.columns))
   pub lines : IsTrue (list_all (fits_line s load.given) load.ops)
+  pub codes : All (HasShortKey s) load.ops
   pub count : length load.ops ≤ most_lines

@@ -1,8 +1,8 @@
 -- One merge of the lines of a load into the rows of a table: lines in the order of their keys, and what each does to the rows written so far.
-use Rattle.std.specs.Prelude.{◌≡◌, ℕ, List, [], ◌∷◌, ◌++◌, map, Bool as Truth, true, ◌&&◌, T, ⊤}
+use Rattle.std.specs.Prelude.{◌≡◌, ℕ, List, [], ◌∷◌, ◌++◌, map, Bool as Truth, true, false, ◌&&◌, T, ⊤}
 use Rattle.std.specs.FinMap.{entries}
 use Rattle.std.specs.FinMap.Entries.{below_all, is_sorted}
-use Rattle.std.specs.Ordering.{is_le}
+use Rattle.std.specs.Ordering.{eq_by_cmp, is_le}
 use Rattle.pk_values.specs.Order.{key_cmp}
 use Rattle.pk_values.specs.Schemas.{Layout}
 use Rattle.pk_values.specs.declared.cells.Value.{Value}
@@ -29,6 +29,11 @@ abbrev pub rise : List Op → Truth
 rise [] = true
 rise (a ∷ []) = true
 rise (a ∷ b ∷ ops) = is_le (key_cmp (key_named a) (key_named b)) && rise (b ∷ ops)
+
+-- the first line names this key
+abbrev pub names_next : List Value → List Op → Truth
+names_next key [] = false
+names_next key (op ∷ ops) = eq_by_cmp key_cmp key (key_named op)
 
 -- no written key is past that of the first line
 abbrev pub await : List Op → List Pair → Truth

@@ -1,12 +1,12 @@
 ghost use Rattle.std.specs.Prelude.{◌≡◌, ◌++◌, IfOk, OnOk, drop};
 ghost use Rattle.std.specs.Option.{option_map};
 ghost use Rattle.pk_model.specs.Books.{touch};
-ghost use Rattle.pk_model.specs.Tables.{after, touches};
+ghost use Rattle.pk_model.specs.Tables.{touches};
 
 use crate::books::Plan;
 use crate::calls::{Load, Op};
 use crate::tables::Table;
-use pk_values::{Items, Key, Schema, copy_cells};
+use pk_values::{Items, Key};
 use std::alloc::{AllocError, Global};
 use std::collections::VecDeque;
 
@@ -57,20 +57,6 @@ fn push_named(alloc: Global, keys: &mut Items<Key>, ops: &[Op]) -> Result<(), Al
         keys.push(op.key().copy(alloc)?)?;
     }
     Ok(())
-}
-
-// A copy of the rows, after a load.
-pub fn table_after(
-    alloc: Global,
-    schema: &Schema,
-    rows: &Table,
-    load: &Load,
-) -> Result<Table, AllocError>
-    ensures { IfOk result (λ table. table ≡ after schema.now load.now rows.now) }
-{
-    let mut table = rows.copy(alloc)?;
-    table.apply(alloc, schema, load.copy(alloc)?)?;
-    Ok(table)
 }
 
 // All but the first so many tables.

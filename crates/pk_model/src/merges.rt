@@ -1,15 +1,15 @@
-ghost use Rattle.std.specs.Prelude.{◌≡◌, ℕ, ◌+◌, List, [], length, T, IfOk};
+ghost use Rattle.std.specs.Prelude.{◌≡◌, ℕ, ◌+◌, List, [], length, T, IfOk, not, ◌&&◌};
 ghost use Rattle.std.specs.FinMap.{entries, is_sorted};
 ghost use Rattle.pk_values.specs.Order.{key_cmp};
 ghost use Rattle.pk_values.specs.Schemas.{Layout};
-ghost use Rattle.pk_model.specs.Tables.{Rows, after_lines};
+ghost use Rattle.pk_model.specs.Tables.{Rows, after_lines, is_upsert, key_named, writes};
 ghost use Rattle.pk_model.specs.Runs.{written, unread, HasRoom};
-ghost use Rattle.pk_model.specs.Merges.{ArePrepared, Settles, KeepsOrder, StaysUpTo, rise, ops_of, row_if_new};
+ghost use Rattle.pk_model.specs.Merges.{ArePrepared, Settles, KeepsOrder, StaysUpTo, rise, ops_of, names_next, row_if_new};
 
 use crate::calls::Op;
 use crate::lines::{new_row, write_cells};
 use crate::runs::{Rest, Run};
-use pk_values::{Row, Schema};
+use pk_values::{Key, Row, Schema};
 use std::alloc::{AllocError, Global};
 use std::collections::VecDeque;
 
@@ -24,10 +24,44 @@ pub struct Line {
 pub fn sorted(mut ops: Vec<Op>) -> Result<Vec<Op>, AllocError>
     ensures rise { IfOk result (λ sorted. T (rise sorted.items)) }
     ensures same { IfOk result (λ sorted. (s : Layout) (given : List ℕ) (m : Rows) → after_lines s given sorted.items m ≡ after_lines s given ops.items m) }
+    ensures writes { IfOk result (λ sorted. writes sorted.items ≡ writes ops.items) }
     ensures count { IfOk result (λ sorted. length sorted.items ≡ length ops.items) }
 {
     ops.sort_by(|a, b| a.key().cmp(b.key()))?;
     Ok(ops)
+}
+
+// Whether the last line of some key is an upsert, in one pass over lines in the order of their keys.
+pub fn writes_in_order(ops: &[Op]) -> bool
+    requires { T (rise ops.now) }
+    ensures { result ≡ writes ops.now }
+{
+    for i in 0..ops.len() {
+        if is_last_upsert(&ops[i], &ops[i + 1..]) {
+            return true;
+        }
+    }
+    false
+}
+
+// Whether a line is an upsert, and the first of the later ones doesn't name its key.
+fn is_last_upsert(op: &Op, later: &[Op]) -> bool
+    ensures { result ≡ (is_upsert op.now && not (names_next (key_named op.now) later.now)) }
+{
+    match op {
+        Op::Delete { .. } => false,
+        Op::Upsert { key, .. } => !names_next(key, later),
+    }
+}
+
+// Whether the first line names a key.
+fn names_next(key: &Key, ops: &[Op]) -> bool
+    ensures { result ≡ names_next key.now ops.now }
+{
+    match ops {
+        [] => false,
+        [next, ..] => *key == *next.key(),
+    }
 }
 
 // Makes the new rows that lines may need.

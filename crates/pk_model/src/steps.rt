@@ -1,10 +1,12 @@
-ghost use Rattle.std.specs.Prelude.{◌≡◌, ◌<◌, ◌≤◌, ◌^◌, ◌+◌, IfOk, OnOk, OnErr, if◌then◌else◌};
+ghost use Rattle.std.specs.Prelude.{◌≡◌, ◌<◌, ◌≤◌, ◌^◌, ◌+◌, IfOk, OnOk, OnErr};
 ghost use Rattle.std.specs.Option.{option_copied};
-ghost use Rattle.pk_model.specs.Books.{answer, answer_begin, answer_end, answer_expire, answer_give_up, answer_load, answer_open, answer_stat, change, change_begin, change_end, change_expire, change_give_up, change_load, open_answer, open_change, plan_at, version};
+ghost use Rattle.pk_model.specs.Books.{answer, answer_begin, answer_end, answer_expire, answer_give_up, change, change_begin, change_end, change_expire, change_give_up, open_answer, open_change, plan_at, version};
 
+use crate::answers::{open, stat};
 use crate::books::{Book, Plan};
-use crate::calls::{Call, Load, Reply, Want};
-use crate::copies::{plan_after, table_after, without_first};
+use crate::calls::{Call, Reply};
+use crate::copies::without_first;
+use crate::publishing::{more_rowsets, publish};
 use pk_values::{Items, Schema};
 use std::alloc::{AllocError, Global};
 use std::mem;
@@ -45,71 +47,13 @@ fn open_step(
     ensures err { OnErr result (book.new ≡ book.old) }
 {
     match call {
-        Call::Load(load) => publish(alloc, schema, book, load),
+        Call::Load(load) => publish(alloc, schema, book, load.copy(alloc)?),
         Call::Open(want) => Ok(open(book, *want)),
         Call::Begin => begin(alloc, book, place),
         Call::End(begun) => end(book, *begun),
         Call::GiveUp(begun) => Ok(give_up(book, *begun)),
         Call::Expire(floor) => Ok(expire(alloc, book, *floor)),
         Call::Stat => Ok(stat(book)),
-    }
-}
-
-fn publish(
-    alloc: Global,
-    schema: &Schema,
-    book: &mut Book,
-    load: &Load,
-) -> Result<Reply, AllocError>
-    requires { version book.old < 2 ^ 62 }
-    ensures answers { IfOk result (λ reply. reply ≡ answer_load book.old) }
-    ensures changes { OnOk result (book.new ≡ change_load schema.now book.old load.now) }
-    ensures err { OnErr result (book.new ≡ book.old) }
-{
-    if book.older.as_slice().len() + 1 == 1000 {
-        return Ok(Reply::ManyVersions);
-    }
-    let version = book.version() + 1;
-    let rowsets = more_rowsets(book.rowsets, load.writes())?;
-    let plan = plan_after(alloc, &book.plan, load)?;
-    let next = table_after(alloc, schema, &book.current, load)?;
-    let kept = book.current.copy(alloc)?;
-    book.older.push(kept)?;
-    book.current = next;
-    book.rowsets = rowsets;
-    book.plan = plan;
-    Ok(Reply::Published(version))
-}
-
-// One more rowset where there is one to add.
-fn more_rowsets(rowsets: u64, one_more: bool) -> Result<u64, AllocError>
-    ensures { IfOk result (λ n. n ≡ rowsets + (if one_more then 1 else 0)) }
-{
-    if !one_more {
-        return Ok(rowsets);
-    }
-    match rowsets.checked_add(1) {
-        Some(rowsets) => Ok(rowsets),
-        None => Err(AllocError),
-    }
-}
-
-fn open(book: &Book, want: Want) -> Reply
-    requires { version book.now < 2 ^ 62 }
-    ensures { result ≡ answer_open book.now want }
-{
-    let current = book.version();
-    match want {
-        Want::Latest => Reply::Opened(current),
-        Want::At(version) => {
-            if version < book.floor {
-                Reply::Expired(book.floor)
-            } else if current < version {
-                Reply::NotYet(current)
-            } else {
-                Reply::Opened(version)
-            }
-        }
     }
 }
 
@@ -198,16 +142,4 @@ fn expire(alloc: Global, book: &mut Book, floor: u64) -> Reply
     book.older = without_first(older, count);
     book.floor = book.floor.max(floor);
     Reply::Floor(book.floor)
-}
-
-fn stat(book: &Book) -> Reply
-    requires { version book.now < 2 ^ 62 }
-    ensures { result ≡ answer_stat book.now }
-{
-    Reply::Stat {
-        floor: book.floor,
-        version: book.version(),
-        rows: book.current.len() as u64,
-        rowsets: book.rowsets,
-    }
 }

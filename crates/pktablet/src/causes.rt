@@ -1,6 +1,8 @@
 ghost use Rattle.std.specs.Prelude.{◌≡◌};
 
 use pk_values::Octets;
+use schema_json::TableFault;
+use script_text::ScriptFault;
 use thiserror::Error;
 
 // A name as text.
@@ -11,12 +13,13 @@ fn shown(name: &Octets) -> &str {
     }
 }
 
-// What keeps a script from the form.
-fn unbuilt_place(line: &u64) -> &'static str {
-    match *line {
-        1 => "line 1 differs",
-        2 => "line 2 differs",
-        _ => "more follows",
+// What is accepted where a table's text is not.
+fn accepted_table(fault: &TableFault) -> &'static str {
+    match fault {
+        TableFault::Bad(_) =>
+            "a table has 1 to 64 columns of different names, of which the first 1 to 8 are the key and take neither NULL nor a default",
+        _ =>
+            "a table is {\"columns\": [COLUMN, ..], \"keys\": NUMBER}, and a COLUMN {\"name\": TEXT, \"type\": TYPE}, with \"nullable\": true or false and \"default\": TEXT or null where they are wanted",
     }
 }
 
@@ -26,20 +29,26 @@ pub enum Cause {
     /// Each job did what it was asked to.
     #[error("each job was done")]
     None,
-    /// The words are not `run builtin NAME`.
-    #[error("the words must be `run builtin SCRIPT`, where SCRIPT names a file and does not begin with `-`")]
+    /// The words are not `run TABLE SCRIPT`.
+    #[error("the words must be `run TABLE SCRIPT`: the names of a table's file and of a script, neither empty nor beginning with `-`")]
     Words,
     /// No input has this name.
     #[error("there is no file `{}`", shown(.0))]
     Missing(Octets),
-    /// An ask or a read failed.
-    #[error("a file could not be read")]
-    InputFault,
-    /// An input is longer than its limit. The number is the limit and one more.
-    #[error("a file has {bytes} bytes or more: a script may have 1,048,576 and a load file 67,108,864")]
-    TooLarge { bytes: u64 },
-    /// The script is not one load and one scan: line 1, line 2, or 3 for bytes after both.
-    #[error("the script must be the two lines `@1 load FILE` and `@1 scan latest`: {}", unbuilt_place(.0))]
+    /// An ask for the input of this name, or a read of it, failed.
+    #[error("the file `{}` could not be read", shown(.0))]
+    InputFault(Octets),
+    /// The input of this name is longer than a limit. The number is the limit that it passes first, and one more.
+    #[error("the file `{}` is too large: it comes to {bytes} bytes or more, where a table and a script may have 1,048,576 each, a load file 67,108,864 and all load files of a script 268,435,456", shown(.name))]
+    TooLarge { name: Octets, bytes: u64 },
+    /// The table's text describes no table.
+    #[error("{}; {}", .0, accepted_table(.0))]
+    Table(TableFault),
+    /// A line of the script is wrong.
+    #[error("{0}")]
+    Script(ScriptFault),
+    /// The job of this number, counted from 1, is not built yet: it is no `load`, `scan` or `stat`, or not in lane 1.
+    #[error("job {0} is not built yet: `load`, `scan` and `stat` in lane 1 are")]
     Unbuilt(u64),
     /// A put failed.
     #[error("the report could not be written")]
@@ -53,7 +62,7 @@ pub enum Cause {
 }
 
 impl Cause {
-    ghost use Rattle.pktablet.specs.Runs.{cause_status};
+    ghost use Rattle.pktablet.specs.Statuses.{cause_status};
 
     /// The status of a cause.
     pub fn status(&self) -> u8
@@ -62,8 +71,8 @@ impl Cause {
         match self {
             Cause::None => 0,
             Cause::Refused => 1,
-            Cause::Words | Cause::Unbuilt(_) => 2,
-            Cause::Missing(_) | Cause::InputFault | Cause::TooLarge { .. } => 3,
+            Cause::Words | Cause::Table(_) | Cause::Script(_) | Cause::Unbuilt(_) => 2,
+            Cause::Missing(_) | Cause::InputFault(_) | Cause::TooLarge { .. } => 3,
             Cause::Sink => 6,
             Cause::Memory => 7,
         }

@@ -1,15 +1,15 @@
-//! One table of a primary key, run by a script of one load and one scan.
+//! One tablet of a primary key table, run by a script of jobs.
 #![tactic(auto)]
 
 pub mod causes;
-mod jobs;
-pub mod outcomes;
-mod reports;
+mod courses;
+mod inputs;
 pub mod runs;
-mod scripts;
+mod statuses;
 mod streams;
 
 use causes::{Cause, Ended};
+use command_line::text_for;
 use dev_host::{HostInputs, HostSink};
 use runs::run;
 use std::alloc::Global;
@@ -28,6 +28,21 @@ fn words_after_name(rt: &(impl Env + AllocGlobal)) -> io::Result<Vec<String>> {
         words.push(word)?;
     }
     Ok(words)
+}
+
+// Prints what a single word asks for, help or the version, and tells whether it did.
+fn answer_word(rt: &HostRuntime, words: &[String]) -> io::Result<bool> {
+    let alloc: Global = rt.alloc();
+    let [word] = words else {
+        return Ok(false);
+    };
+    match text_for(alloc, word.as_str())? {
+        Some(text) => {
+            print!(rt; "{text}")?;
+            Ok(true)
+        }
+        None => Ok(false),
+    }
 }
 
 // Runs the words over the host's files and standard output.
@@ -54,17 +69,44 @@ fn not_begun(error: &io::Error) -> Ended {
     }
 }
 
-fn main(rt: HostRuntime) -> io::Result<ExitCode> {
-    let begun = match words_after_name(&rt) {
-        Ok(words) => run_on_host(&rt, words.as_slice()),
-        Err(error) => Err(error),
+// The file that a cause speaks of, where it is the table or the script.
+fn file_of<'a>(cause: &Cause, words: &'a [String]) -> Option<&'a str> {
+    let [_, table, script] = words else {
+        return None;
     };
-    let ended = match begun {
+    match cause {
+        Cause::Table(_) => Some(table.as_str()),
+        Cause::Script(_) | Cause::Unbuilt(_) => Some(script.as_str()),
+        _ => None,
+    }
+}
+
+// Writes one line on standard error of why a run ended.
+fn explain(rt: &HostRuntime, cause: &Cause, words: &[String]) -> io::Result<()> {
+    match file_of(cause, words) {
+        Some(file) => eprintln!(rt; "pktablet: {file}: {cause}"),
+        None => eprintln!(rt; "pktablet: {cause}"),
+    }
+}
+
+fn main(rt: HostRuntime) -> io::Result<ExitCode> {
+    let words = match words_after_name(&rt) {
+        Ok(words) => words,
+        Err(error) => {
+            let ended = not_begun(&error);
+            explain(&rt, &ended.cause, &[])?;
+            return Ok(ExitCode::from(ended.status));
+        }
+    };
+    if answer_word(&rt, &words)? {
+        return Ok(ExitCode::from(0));
+    }
+    let ended = match run_on_host(&rt, &words) {
         Ok(ended) => ended,
         Err(error) => not_begun(&error),
     };
     if ended.status > 1 {
-        eprintln!(rt; "pktablet: {}", ended.cause)?;
+        explain(&rt, &ended.cause, &words)?;
     }
     Ok(ExitCode::from(ended.status))
 }

@@ -3,6 +3,7 @@ use Rattle.std.proofs.lemmas.List.Sorted.{ranks_by, answers_always}
 use Rattle.pk_values.specs.OrderFacts.{key_total}
 use Rattle.pk_model.specs.Tables.{key_named}
 use Rattle.pk_model.proofs.MergeLaws.{rise-sorted, same-sorted}
+use Rattle.pk_model.proofs.WriteLaws.{writes-sorted}
 use Rattle.pk_model.proofs.merges.sorted.Goals as goal
 
 pub returns-clause-rise : goal.returns-clause-rise
@@ -10,3 +11,6 @@ returns-clause-rise c = rise-sorted _ (c.in_ok-sort_by.ensures.sorted _ (ranks_b
 
 pub returns-clause-same : goal.returns-clause-same
 returns-clause-same c = same-sorted _ _ (c.sort_by.ensures.stable _ (ranks_by key_total key_named) (answers_always _ _ _ (λ f a r f' k. search rules)))
+
+pub returns-clause-writes : goal.returns-clause-writes
+returns-clause-writes c = writes-sorted _ _ (c.sort_by.ensures.stable _ (ranks_by key_total key_named) (answers_always _ _ _ (λ f a r f' k. search rules)))

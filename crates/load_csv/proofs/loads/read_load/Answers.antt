@@ -1,0 +1,7 @@
+use Rattle.load_csv.proofs.LawfulFacts.{if-lawful, lines-lawful}
+use Rattle.load_csv.proofs.loads.read_load.Goals as goal
+
+pub returns-clause-lawful : goal.returns-clause-lawful
+returns-clause-lawful c =
+    let s = c.args.schema.now in
+    if-lawful s c.whole_load.result c.in_ok-ops.ops c.whole_load.ensures.ok (lines-lawful s c.in_ok-fields.fields.items _ c.in_ok-ops.ops c.in_ok-fields.ensures.whole (rw c.deref.ensures.value at c.in_ok-ops.ensures.ok))

@@ -1,0 +1,57 @@
+-- What the header of a load file names.
+use Rattle.std.specs.Prelude.{ℕ, ◌+◌, ◌==◌, List, [], ◌∷◌, ◌++◌, length, codes, Option, Some, None, option_map, Result, Ok, Err, Bool as Truth, true, false, if◌then◌else◌}
+use Rattle.std.specs.List.{list_any}
+use Rattle.cell_text.specs.Cells.{is_word}
+use Rattle.pk_values.specs.Schemas.{Layout, place_of_name}
+use Rattle.pk_values.specs.declared.cells.Column.{Column}
+use Rattle.load_csv.specs.declared.loads.LoadFault.{LoadFault}
+use Rattle.load_csv.specs.declared.loads.LoadFault.TheVariants.{UnknownName, NameTwice, Missing}
+use Rattle.load_csv.specs.declared.headers.Field.{Field}
+use Rattle.load_csv.specs.declared.headers.Field.TheVariants as field
+
+-- what follows a step that may end in a fault
+abbrev pub and_then : {T U : Type 0} → (T → Result U LoadFault) → Result T LoadFault → Result U LoadFault
+and_then next (Ok x) = next x
+and_then next (Err fault) = Err fault
+
+-- two fields of a file are both `__op`, or both the column in one place of the table
+abbrev pub is_same : Field → Field → Truth
+is_same field.Op field.Op = true
+is_same field.Op (field.Column j) = false
+is_same (field.Column i) field.Op = false
+is_same (field.Column i) (field.Column j) = i == j
+
+-- the word that names no column, but what a row does
+abbrev pub op_name : List ℕ
+op_name = codes "__op"
+
+-- what a name stands for, if for anything
+abbrev pub field_named : Layout → List ℕ → Option Field
+field_named s name = if is_word name op_name then Some field.Op else option_map field.Column (place_of_name name s.columns)
+
+-- the field in place c of a header, counted from 1, where its name stands for something that no field before it does
+abbrev pub new_field : List Field → ℕ → Option Field → Result Field LoadFault
+new_field before c None = Err (UnknownName c)
+new_field before c (Some f) = if list_any (is_same f) before then Err (NameTwice c) else Ok f
+
+-- the fields that names stand for, behind those before them, or the fault of the first name that has one
+abbrev pub fields_after : Layout → List Field → List (List ℕ) → Result (List Field) LoadFault
+fields_after s before [] = Ok before
+fields_after s before (name ∷ names) = and_then (λ f. fields_after s (before ++ f ∷ []) names) (new_field before (length before + 1) (field_named s name))
+
+-- the place of the first of these columns that no field stands for; the first of them has place i
+abbrev pub missing_from : List Field → ℕ → List Column → Option ℕ
+missing_from fields i [] = None
+missing_from fields i (c ∷ cs) = if list_any (is_same (field.Column i)) fields then missing_from fields (i + 1) cs else Some i
+
+abbrev pub unless_missing : List Field → Option ℕ → Result (List Field) LoadFault
+unless_missing fields None = Ok fields
+unless_missing fields (Some i) = Err (Missing (i + 1))
+
+-- each column of the table is there
+abbrev pub with_each_column : Layout → List Field → Result (List Field) LoadFault
+with_each_column s fields = unless_missing fields (missing_from fields 0 s.columns)
+
+-- what the names of a header stand for, in file order, or the first fault: that of the first name that has one, and then that of the first column which isn't there
+abbrev pub header_of : Layout → List (List ℕ) → Result (List Field) LoadFault
+header_of s names = and_then (with_each_column s) (fields_after s [] names)

@@ -1,0 +1,6 @@
+pub mod Scripts
+pub mod Answers
+pub mod Cuts
+pub mod Lines
+pub mod Texts
+pub mod Reports
