@@ -9,15 +9,17 @@ use Rattle.pk_values.specs.Schemas.{Layout}
 use Rattle.pk_model.specs.declared.books.Book.{Book}
 use Rattle.pk_model.specs.declared.calls.Call.{Call}
 use Rattle.pk_model.specs.declared.calls.Reply.{Reply}
+use Rattle.pk_model.specs.declared.calls.Reply.TheVariants as reply
 use Rattle.load_csv.specs.Loads.{load_of}
 use Rattle.pk_model.specs.Books.{MayReply, new_book, next, version}
 use Rattle.script_text.specs.Reports.{AreOutcomes, AreReplies, InLineOrder, IsOutcome, LoadOutcome, ScanOutcome, StatOutcome, Turn, book_after, book_left, call_at, call_of, turn_of, turns}
 use Rattle.script_text.specs.declared.tasks.Task.{Task}
 use Rattle.script_text.specs.declared.tasks.Task.TheVariants as task
 use Rattle.script_text.specs.declared.outcomes.Outcome.{Outcome}
+use Rattle.script_text.specs.declared.outcomes.Outcome.TheVariants as outcome
 use Rattle.script_text.specs.declared.outcomes.Item.{Item}
 use Rattle.script_text.specs.declared.outcomes.ItemPart.TheVariants as part
-use Rattle.pktablet.specs.Statuses.{EndsCalmly, IsCalm, gives, outcome_status, status_of}
+use Rattle.pktablet.specs.Statuses.{EndsCalmly, IsCalm, RepliesCalmly, gives, outcome_status, reply_status, status_of}
 use Rattle.pktablet.specs.Courses.{AreWithin, HaveTexts, IsCourse}
 
 abbrev turn_at : ℕ → Reply → Book → Turn
@@ -195,9 +197,35 @@ calm-not n status h k = by (n == status) refl
         (λ b. ⊎_elim (λ a. ⊎_elim (λ x. omega arith) (λ x. omega arith) k) (λ a. ⊎_elim (λ x. omega arith) (λ x. omega arith) k) b)
         h)
 
+calm-reply : (r : Reply) → RepliesCalmly r → IsCalm (reply_status r)
+calm-reply (reply.Worn n) h = absurd h
+calm-reply (reply.Published v) h = h
+calm-reply (reply.Opened v) h = h
+calm-reply (reply.Begun v) h = h
+calm-reply (reply.Compacted before after rows late) h = h
+calm-reply (reply.Floor v) h = h
+calm-reply (reply.Stat floor version rows rowsets) h = h
+calm-reply reply.GaveUp h = h
+calm-reply (reply.Expired v) h = h
+calm-reply (reply.NotYet v) h = h
+calm-reply (reply.Busy v) h = h
+calm-reply reply.ManyVersions h = h
+calm-reply (reply.Closed p) h = h
+calm-reply (reply.StoreFault n) h = h
+calm-reply (reply.Damaged d) h = h
+calm-reply reply.Memory h = h
+calm-reply reply.NoPlan h = h
+
+calm-outcome : (o : Outcome) → EndsCalmly o → IsCalm (outcome_status o)
+calm-outcome (outcome.Turn r) h = calm-reply r h
+calm-outcome (outcome.Rows v count text) h = h
+calm-outcome (outcome.Load f) h = h
+calm-outcome (outcome.Outside f) h = h
+calm-outcome outcome.NotRun h = h
+
 gives-none : (status : ℕ) (os : List Outcome) → (status ≡ 4) ⊎ (status ≡ 5) → AllByRecursion EndsCalmly os → gives status os ≡ false
 gives-none status [] k h = refl
-gives-none status (o ∷ os) k h = ap (λ b. b || gives status os) (calm-not (outcome_status o) status h.0 k) ∙ gives-none status os k h.1
+gives-none status (o ∷ os) k h = ap (λ b. b || gives status os) (calm-not (outcome_status o) status (calm-outcome o h.0) k) ∙ gives-none status os k h.1
 
 pub calm-status : (os : List Outcome) → AllByRecursion EndsCalmly os → IsCalm (status_of os)
 calm-status os h =

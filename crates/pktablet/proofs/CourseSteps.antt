@@ -33,7 +33,7 @@ use Rattle.script_text.specs.declared.outcomes.Outcome.{Outcome}
 use Rattle.script_text.specs.declared.outcomes.Outcome.TheVariants as outcome
 use Rattle.script_text.specs.declared.outcomes.Item.{Item}
 use Rattle.script_text.specs.declared.outcomes.ItemPart.TheVariants as part
-use Rattle.pktablet.specs.Statuses.{EndsCalmly, IsCalm, reply_status}
+use Rattle.pktablet.specs.Statuses.{EndsCalmly, RepliesCalmly}
 use Rattle.pktablet.specs.Courses.{Adds, HasFewBytes, HasTexts, HaveTexts, IsCourse}
 use Rattle.pktablet.specs.declared.courses.Course.{Course}
 use Rattle.pktablet.proofs.CourseLaws.{TurnOutcome, course-refused, course-taken}
@@ -117,10 +117,10 @@ stat-next s b place e = by b.closed e
     by None f = ap (λ (c : Option ℕ). change_unless c b b) e
     by (Some p) f = cc
 
-pub stat-calm : (b : Book) (r : Reply) → b.closed ≡ None → r ≡ answer b call.Stat → IsCalm (reply_status r)
-stat-calm b r e f = subst (λ x. IsCalm (reply_status x)) (sym f) (by b.closed e)
+pub stat-calm : (b : Book) (r : Reply) → b.closed ≡ None → r ≡ answer b call.Stat → RepliesCalmly r
+stat-calm b r e f = subst RepliesCalmly (sym f) (by b.closed e)
   where
-    by : (c : Option ℕ) → c ≡ None → IsCalm (reply_status (answer_unless c (answer_stat b)))
+    by : (c : Option ℕ) → c ≡ None → RepliesCalmly (answer_unless c (answer_stat b))
     by None g = inl refl
     by (Some p) g = cc
 

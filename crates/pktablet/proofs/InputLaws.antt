@@ -11,7 +11,7 @@ use Rattle.script_text.specs.declared.scripts.JobAct.TheVariants as act
 use Rattle.script_text.specs.declared.tasks.Task.{Task}
 use Rattle.script_text.specs.declared.tasks.Task.TheVariants as task
 use Rattle.pktablet.specs.Courses.{HasFewBytes}
-use Rattle.pktablet.specs.Runs.{AreTasks, Asks, HasJobs, HasTexts, IsTask, JobsStop, LoadsNext, PlanStops, Stops, StopsAt, TaskStops, bytes_in, first_unbuilt, is_built, is_built_act, limit_after, most_after, task_bytes}
+use Rattle.pktablet.specs.Runs.{AreTasks, Asks, HasJobs, HasTexts, IsTask, JobsStop, LoadsNext, PlanStops, Stops, StopsAt, TaskStops, bytes_in, first_unbuilt, is_built, is_built_act, limit_after, most_after, most_loads, task_bytes}
 use Rattle.pktablet.specs.Streams.{Lacks, Exceeds}
 use Rattle.pktablet.specs.declared.causes.Cause.{Cause}
 use Rattle.pktablet.specs.declared.causes.Cause.TheVariants as cause
@@ -129,8 +129,8 @@ split-at (x ∷ xs) (suc i) d lt = ap (λ ys. x ∷ ys) (split-at xs i d (omega 
 
 -- the file of the job in place i is the next one
 pub next-stops : (files : Option Files) (jobs : List Job) (i : ℕ) (j : Job) (ts : List Task) (read before mid now : ℕ) (c : Cause)
-    → i < length jobs → j ≡ get_or jobs i j → AreTasks files (take i jobs) ts → read ≡ bytes_in ts → before ≤ mid → TaskStops files j.act read mid now c → JobsStop files jobs before now c
-next-stops files jobs i j ts read before mid now c lt is are sum le h = by j.act refl h
+    → i < length jobs → j ≡ get_or jobs i j → AreTasks files (take i jobs) ts → read ≡ bytes_in ts → read ≤ most_loads → before ≤ mid → TaskStops files j.act read mid now c → JobsStop files jobs before now c
+next-stops files jobs i j ts read before mid now c lt is are sum few le h = by j.act refl h
   where
     found : (name : List ℕ) → j.act ≡ act.Load name → LoadsNext files jobs name read
     found name e = record {
@@ -141,6 +141,7 @@ next-stops files jobs i j ts read before mid now c lt is are sum le h = by j.act
       tasks = ts;
       are = are;
       before_is = sum;
+      within = few;
       loads = e;
     }
 

@@ -55,8 +55,17 @@ status_of outcomes =
 abbrev pub IsCalm : ℕ → Type 0
 IsCalm status = (status ≡ 0) ⊎ (status ≡ 1) ⊎ (status ≡ 7)
 
+-- a book in memory uses up no number, so it never says that one is worn
+abbrev pub RepliesCalmly : Reply → Type 0
+RepliesCalmly (reply.Worn n) = ⊥
+RepliesCalmly r = IsCalm (reply_status r)
+
 abbrev pub EndsCalmly : Outcome → Type 0
-EndsCalmly o = IsCalm (outcome_status o)
+EndsCalmly (outcome.Turn r) = RepliesCalmly r
+EndsCalmly (outcome.Rows v count text) = IsCalm 0
+EndsCalmly (outcome.Load f) = IsCalm (fault_status f)
+EndsCalmly (outcome.Outside f) = IsCalm (outcome_status (outcome.Outside f))
+EndsCalmly outcome.NotRun = IsCalm 7
 
 -- the status of a cause
 abbrev pub cause_status : Cause → ℕ

@@ -35,11 +35,11 @@ pub enum Cause {
     /// No input has this name.
     #[error("there is no file `{}`", shown(.0))]
     Missing(Octets),
-    /// An ask for the input of this name, or a read of it, failed.
+    /// An ask for an input, or a read of one, failed: this one, by its name.
     #[error("the file `{}` could not be read", shown(.0))]
     InputFault(Octets),
-    /// The input of this name is longer than a limit. The number is the limit that it passes first, and one more.
-    #[error("the file `{}` is too large: it comes to {bytes} bytes or more, where a table and a script may have 1,048,576 each, a load file 67,108,864 and all load files of a script 268,435,456", shown(.name))]
+    /// With the input of this name a limit is passed: its own, or that of all load files together. The number is the limit that it passes first, and one more.
+    #[error("with the file `{}` a limit is passed: {bytes} bytes or more, where a table and a script may have 1,048,576 each, a load file 67,108,864 and all load files of a script 268,435,456", shown(.name))]
     TooLarge { name: Octets, bytes: u64 },
     /// The table's text describes no table.
     #[error("{}; {}", .0, accepted_table(.0))]

@@ -9,7 +9,7 @@ ghost use Rattle.pk_model.specs.Books.{MayReply, answer, new_book, next, rows_at
 ghost use Rattle.script_text.specs.Reports.{Reports, RowsOutcome, ScanReply};
 ghost use Rattle.script_text.specs.Texts.{AreWritable, rows_text};
 ghost use Rattle.pktablet.specs.Courses.{Adds, HaveTexts, IsCourse, HasFewBytes};
-ghost use Rattle.pktablet.specs.Statuses.{EndsCalmly, IsCalm, reply_status};
+ghost use Rattle.pktablet.specs.Statuses.{EndsCalmly, RepliesCalmly};
 
 use dev_traits::OutsideFault;
 use load_csv::read_load;
@@ -36,7 +36,7 @@ fn load_reply(alloc: Global, schema: &Schema, book: &mut Book, load: Load) -> Re
     ensures grows { version book.new ≤ version book.old + 1 }
     ensures texts { HaveTexts book.old → HaveTexts book.new }
     ensures stays_open { book.new.closed ≡ None }
-    ensures calm { IsCalm (reply_status result) }
+    ensures calm { RepliesCalmly result }
 {
     let _valid = schema.columns();
     match book.load(alloc, schema, load) {
@@ -66,7 +66,7 @@ fn rows_outcome(alloc: Global, version: u64, rows: &[Row]) -> Outcome
 fn scan_outcome(alloc: Global, book: &Book, reply: Reply) -> Outcome
     requires texts { HaveTexts book.now }
     requires kept { (v : ℕ) → reply ≡ Reply.Opened v → IsSomeAnd (rows_at book.now v) (λ m. ⊤) }
-    requires calm { IsCalm (reply_status reply) }
+    requires calm { RepliesCalmly reply }
     ensures told { ScanReply reply book.now result }
     ensures calm { EndsCalmly result }
 {

@@ -81,32 +81,49 @@ fn file_of<'a>(cause: &Cause, words: &'a [String]) -> Option<&'a str> {
     }
 }
 
-// Writes one line on standard error of why a run ended.
-fn explain(rt: &HostRuntime, cause: &Cause, words: &[String]) -> io::Result<()> {
-    match file_of(cause, words) {
+// Writes one line on standard error of why a run ended, where that can be written.
+fn explain(rt: &HostRuntime, cause: &Cause, words: &[String]) {
+    let told = match file_of(cause, words) {
         Some(file) => eprintln!(rt; "pktablet: {file}: {cause}"),
         None => eprintln!(rt; "pktablet: {cause}"),
+    };
+    // A line that can't be written leaves the status as it is.
+    let _told = told.is_ok();
+}
+
+// How printing what a word asks for ended.
+fn printed(answered: io::Result<bool>) -> Option<Cause> {
+    match answered {
+        Ok(true) => Some(Cause::None),
+        Ok(false) => None,
+        Err(error) => match error.kind() {
+            ErrorKind::OutOfMemory => Some(Cause::Memory),
+            _ => Some(Cause::Sink),
+        },
+    }
+}
+
+// Does what the words ask for.
+fn attempt(rt: &HostRuntime, words: &[String]) -> Ended {
+    match printed(answer_word(rt, words)) {
+        Some(cause) => Ended {
+            status: cause.status(),
+            cause,
+        },
+        None => match run_on_host(rt, words) {
+            Ok(ended) => ended,
+            Err(error) => not_begun(&error),
+        },
     }
 }
 
 fn main(rt: HostRuntime) -> io::Result<ExitCode> {
-    let words = match words_after_name(&rt) {
-        Ok(words) => words,
-        Err(error) => {
-            let ended = not_begun(&error);
-            explain(&rt, &ended.cause, &[])?;
-            return Ok(ExitCode::from(ended.status));
-        }
-    };
-    if answer_word(&rt, &words)? {
-        return Ok(ExitCode::from(0));
-    }
-    let ended = match run_on_host(&rt, &words) {
-        Ok(ended) => ended,
-        Err(error) => not_begun(&error),
+    let (ended, words) = match words_after_name(&rt) {
+        Ok(words) => (attempt(&rt, &words), words),
+        Err(error) => (not_begun(&error), Vec::new(rt.alloc())),
     };
     if ended.status > 1 {
-        explain(&rt, &ended.cause, &words)?;
+        explain(&rt, &ended.cause, &words);
     }
     Ok(ExitCode::from(ended.status))
 }

@@ -19,6 +19,7 @@ returns-in-Err-clause-stopped g c =
     (get_or_default jobs i c.index-jobs-i.result job c.loop-i-test.true)
     c.loop-i.invariant.2
     c.loop-i.invariant.3
+    c.loop-i.invariant.4
     c.loop-i.invariant.1
     (subst (λ f. TaskStops f job.act c.loop-i.read mid now c.in-Err.cause) c.loop-i.invariant.0 c.in-Err.ensures.stopped)
 
