@@ -1,5 +1,5 @@
 -- What calls that read do to a reader, and what they tell.
-use Rattle.std.specs.Prelude.{◌≡◌, ℕ, ◌+◌, ◌≤◌, List, take, drop, Some, slice_get, Result, IsErrOf, ⊤}
+use Rattle.std.specs.Prelude.{◌≡◌, ℕ, ◌+◌, ◌-◌, ◌^◌, ◌≤◌, min, List, take, drop, Some, slice_get, Result, IsErrOf, ⊤}
 use Rattle.pk_values.specs.Schemas.{Layout}
 use Rattle.column_page.specs.declared.footers.BlockMark.{BlockMark}
 use Rattle.column_page.specs.declared.footers.Footer.{Footer}
@@ -30,16 +30,18 @@ OfBlock f b P = (mark : BlockMark) → slice_get f.blocks b ≡ Some mark → P 
 abbrev pub block_in : List ℕ → BlockMark → List ℕ
 block_in file mark = take (mark.length + 32) (drop mark.place file)
 
--- a reader of the same file, after at most so many reads more
+-- a reader of the same file, after at most so many reads more; a count never falls, and stops at the last u64
 pub record ReadsOn (most : ℕ) (old new : ReaderView) : Type 0 where
   pub same : SameFile old new
   pub reads : new.reads ≤ old.reads + most
+  pub grows : min old.reads (2 ^ 64 - 1) ≤ new.reads
   pub later : old.faults ≤ new.faults
 
 -- a call that reads at most so often, and tells a fault of the device only where the reader counted one
 pub record Reading {T : Type 0} (most : ℕ) (old new : ReaderView) (result : Result T ReadFault) : Type 0 where
   pub same : SameFile old new
   pub reads : new.reads ≤ old.reads + most
+  pub grows : min old.reads (2 ^ 64 - 1) ≤ new.reads
   pub later : old.faults ≤ new.faults
   pub failed : IsErrOf result read.StoreFault → Rose old.faults new.faults
 

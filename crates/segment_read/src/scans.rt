@@ -86,6 +86,8 @@ pub fn rows_of<R: SealedReader>(
     requires { KnowsFooter schema.now (R.view segment.old.reader) segment.old.footer }
     ensures rows { IfOk result (λ rows. Told (R.view segment.old.reader) (λ file. AreRowsBefore schema.now segment.old.footer file (length segment.old.footer.blocks) rows.items)) }
     ensures segment { IfOk result (λ rows. Told (R.view segment.old.reader) (λ file. IsSegmentOf schema.now segment.old.footer file rows.items)) }
+    ensures fit { IfOk result (λ rows. All (λ row. IsTrue (fits_row schema.now row)) rows.items) }
+    ensures rise { IfOk result (λ rows. KeysRise schema.now rows.items) }
     ensures damaged { IfErr result (λ e. OnDamage e (IsRowsDamage schema.now segment.old.footer segment.old.number (R.view segment.old.reader))) }
     ensures reading { Reading (length segment.old.footer.blocks) (R.view segment.old.reader) (R.view segment.new.reader) result }
     ensures number { segment.new.number ≡ segment.old.number }

@@ -1,4 +1,4 @@
-ghost use Rattle.std.specs.Prelude.{◌≡◌, ◌↔◌, ◌+◌, ◌/◌, ◌%◌, ◌<◌, ◌≤◌, All, IfErr, IfOk, IsTrue, length, slice_get};
+ghost use Rattle.std.specs.Prelude.{◌≡◌, ◌↔◌, ◌+◌, ◌/◌, ◌%◌, ◌<◌, ◌≤◌, All, IfErr, IfOk, OnOk, OnErr, IsTrue, length, min, slice_get, ◌-◌, ◌^◌};
 ghost use Rattle.pk_values.specs.Schemas.{fits_row, Layout};
 ghost use Rattle.column_page.specs.Footers.{is_footer};
 ghost use Rattle.column_page.specs.declared.footers.Footer.{Footer};
@@ -152,6 +152,7 @@ pub fn row_at<R: SealedReader>(
     requires there { row < segment.old.footer.rows }
     ensures row { IfOk result (λ found. Told (R.view segment.old.reader) (λ file. OfBlock segment.old.footer (row / 1024) (λ mark.
         IsRowOf schema.now mark (block_in file mark) (row % 1024) found))) }
+    ensures fit { IfOk result (λ found. IsTrue (fits_row schema.now found)) }
     ensures damaged { IfErr result (λ e. OnDamage e (IsDamage segment.old.number (part.Block (row / 1024)) (λ shown.
         Told (R.view segment.old.reader) (λ file. OfBlock segment.old.footer (row / 1024) (λ mark. BlockShown schema.now mark (block_in file mark) shown))))) }
     ensures reading { Reading 1 (R.view segment.old.reader) (R.view segment.new.reader) result }
@@ -181,7 +182,8 @@ impl<R: SealedReader> Segment<R> {
         ensures kept_number { self.new.number ≡ self.old.number }
         ensures kept_footer { self.new.footer ≡ self.old.footer }
         ensures same { SameFile (R.view self.old.reader) (R.view self.new.reader) }
-        ensures reads { (R.view self.new.reader).reads ≤ (R.view self.old.reader).reads + 1 }
+        ensures counted { OnOk result ((R.view self.new.reader).reads ≡ min ((R.view self.old.reader).reads + 1) (2 ^ 64 - 1)) }
+        ensures uncounted { OnErr result ((R.view self.new.reader).reads ≡ (R.view self.old.reader).reads) }
         ensures faults { (R.view self.new.reader).faults ≡ (R.view self.old.reader).faults }
         ensures known { (s : Layout) → KnowsFooter s (R.view self.old.reader) self.old.footer → KnowsFooter s (R.view self.new.reader) self.new.footer }
         ensures copy_known { IfOk result (λ copy. (s : Layout) → KnowsFooter s (R.view self.old.reader) self.old.footer → KnowsFooter s (R.view copy.reader) copy.footer) }

@@ -30,6 +30,7 @@ loop-b-preserved g c =
       kept = made.kept ∙ inv.kept;
       same = record { bytes = made.reading.same.bytes ∙ inv.same.bytes; size = made.reading.same.size ∙ inv.same.size };
       reads = omega (arith, made.reading.reads, inv.reads);
+      grows = omega (arith, made.reading.grows, inv.grows);
       later = omega (arith, made.reading.later, inv.later);
       read = λ file told. one_block_more c.args.schema.now c.args.segment.now.footer file c.loop-b.b c.loop-b.rows.items c.add_block.new.rows.items (inv.read file told) (omega arith)
           (λ mark got. made.added file (inv.same.bytes ∙ told) mark (ap (λ (f : Footer). slice_get f.blocks c.loop-b.b) inv.kept ∙ got)) made.rise;

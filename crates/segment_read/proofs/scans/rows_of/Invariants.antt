@@ -1,4 +1,5 @@
-use Rattle.std.proofs.Common.{◌≡◌, ◌+◌, ◌≤◌, All, IsTrue}
+use Rattle.std.proofs.Common.{◌≡◌, ◌+◌, ◌-◌, ◌^◌, ◌≤◌, All, IsTrue}
+use Rattle.std.specs.Prelude.{min}
 use Rattle.pk_values.specs.Schemas.{fits_row}
 use Rattle.dev_traits.specs.Reader.{SameFile}
 use Rattle.segment_form.specs.Segments.{KeysRise}
@@ -14,6 +15,7 @@ invariant-loop-b g l = record {
   kept : l.segment.footer ≡ l.fn.segment.footer;
   same : SameFile (g.R.SealedReader.view l.fn.segment.reader) (g.R.SealedReader.view l.segment.reader);
   reads : (g.R.SealedReader.view l.segment.reader).reads ≤ (g.R.SealedReader.view l.fn.segment.reader).reads + l.b;
+  grows : min (g.R.SealedReader.view l.fn.segment.reader).reads (2 ^ 64 - 1) ≤ (g.R.SealedReader.view l.segment.reader).reads;
   later : (g.R.SealedReader.view l.fn.segment.reader).faults ≤ (g.R.SealedReader.view l.segment.reader).faults;
   read : Told (g.R.SealedReader.view l.fn.segment.reader) (λ file. AreRowsBefore l.schema l.fn.segment.footer file l.b l.rows.items);
 }
