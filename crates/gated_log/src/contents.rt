@@ -35,6 +35,9 @@ fn body<S: Store>(
 }
 
 /// The bodies of an area's log, in their order. It writes nothing.
+///
+/// # Errors
+/// `NotALog`, `StoreFault`, and `Memory` for the bodies.
 pub fn bodies<S: Store>(alloc: Global, store: &mut S, area: u32) -> Result<Vec<Octets>, LogFault>
     requires { area < 3 }
     ensures bodies { IfOk result (λ bodies. Told (S.view store.old) (λ image. IsLog bodies.items (area_of image area))) }

@@ -42,7 +42,7 @@ impl Framed {
     }
 }
 
-/// A body in its frame.
+/// A body of at least 1 byte in its frame.
 pub fn frame(alloc: Global, body: &[u8]) -> Result<Framed, Memory>
     requires { 1 ≤ length body.now }
     ensures { IfOk result (λ framed. framed ≡ body.now) }

@@ -19,8 +19,12 @@ pub struct Log {
     ghost no_longer: { end ≤ 2 ^ 44 },
 }
 
-/// Adds a body. At `Ok` each crash from then on leaves it. At an error the area may have the body or not: find the log again.
-/// The length, the body and a closed gate are written behind the log's closed gate and synced; then the gate is opened and synced.
+/// Adds a body, by four device calls: the length, the body and a closed gate are written behind the log's closed gate and synced; then the gate is opened and
+/// synced. The store has room for them and for `Framed::room` bytes. At `Ok` each crash from then on leaves the body.
+///
+/// # Errors
+/// `StoreFault`. A crash may then leave the area with the body or without, and so may a read. Before another append sync the area, and find the log again: over a
+/// gate that is open in some image alone, an append could leave bytes that are no log.
 pub fn append<S: Store>(store: &mut S, log: &mut Log, piece: &Framed) -> Result<(), LogFault>
     requires calls { 4 ≤ (S.view store.old).spare_calls }
     requires bytes { length piece.now + 10 ≤ (S.view store.old).spare_bytes }

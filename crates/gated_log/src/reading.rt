@@ -10,7 +10,10 @@ use crate::log::OPEN;
 use crate::{Log, LogFault};
 use dev_traits::Store;
 
-/// Empties the log of an area.
+/// Empties the log of an area, by one device call, `blank`, for which the store has room.
+///
+/// # Errors
+/// `StoreFault`. A crash then leaves what it might have left before, or the empty log.
 pub fn reset<S: Store>(store: &mut S, area: u32) -> Result<Log, LogFault>
     requires there { area < 3 }
     requires calls { 1 ≤ (S.view store.old).spare_calls }
@@ -95,7 +98,10 @@ fn closed_gate<S: Store>(store: &mut S, area: u32, end: u64) -> Result<u64, LogF
 }
 
 /// Finds the log of an area. An empty area is blanked first, for which the call itself takes the store's room.
-/// An area is a log, with its bodies in their order, or it is `NotALog`.
+/// An area is a log, with its bodies in their order, or it is `NotALog`. It doesn't sync: where some image may have another gate open, sync the area first.
+///
+/// # Errors
+/// `NotALog`, `StoreFault`, and `Memory` for the room of the blanking.
 pub fn find<S: Store>(store: &mut S, area: u32) -> Result<Log, LogFault>
     requires { area < 3 }
     ensures area { IfOk result (λ log. log.area ≡ area) }
