@@ -6,7 +6,7 @@ use std::fs::File;
 use std::io::{ErrorKind, Read};
 use std::rt::Files;
 
-/// An open file.
+/// An open file of the host, read from its first byte on.
 #[derive(Drop)]
 pub struct HostSource<R: Files> {
     file: R::File,
@@ -72,8 +72,6 @@ impl<R: Files> Inputs for HostInputs<R> {
     }
 
     fn give_back(&mut self, src: HostSource<R>) {
-        if src.faults > 0 {
-            self.faults = self.faults.saturating_add(1);
-        }
+        self.faults = self.faults.saturating_add(src.faults);
     }
 }

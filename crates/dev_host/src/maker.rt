@@ -1,5 +1,5 @@
 ghost use Rattle.std.specs.Prelude.{◌≡◌, ◌^◌, ◌≤◌, ◌+◌, None, OnErr};
-ghost use Rattle.dev_traits.specs.Causes.{Rose};
+ghost use Rattle.dev_traits.specs.Causes.{Counts};
 ghost use Rattle.dev_host.specs.Silent.{silent_maker};
 
 use crate::disk::{MOST, make_folder};
@@ -22,7 +22,7 @@ pub struct HostSealed<R: Files> {
     ghost short: { size ≤ 2 ^ 44 },
 }
 
-/// A maker of files in a folder.
+/// A maker of files in a folder. Each lies under a name of its own until it is adopted; an unfinished one is made anew under the same name.
 #[derive(Drop)]
 pub struct HostMaker<R: Files> {
     alloc: Global,
@@ -84,8 +84,7 @@ impl<R: Files + Clone + Drop> HostMaker<R> {
 
     fn fail(&mut self) -> DevError
         ensures failed { result ≡ DevError.Failed }
-        ensures rose { Rose self.old.faults self.new.faults }
-        ensures later { self.old.faults ≤ self.new.faults }
+        ensures counts { Counts 1 self.old.faults self.new.faults }
     {
         self.faults = self.faults.saturating_add(1);
         DevError::Failed
@@ -108,7 +107,6 @@ impl<R: Files + Clone + Drop> FileMaker for HostMaker<R> {
     fn start(&mut self) -> Result<(), DevError> {
         self.file = None;
         self.size = 0;
-        self.files = self.files.saturating_add(1);
         let Ok(path) = format!(in self.alloc; "{}/m{}-{}", self.folder, self.number, self.files)
         else {
             return Err(DevError::Memory);
@@ -137,6 +135,7 @@ impl<R: Files + Clone + Drop> FileMaker for HostMaker<R> {
 
     fn seal(&mut self) -> Result<HostSealed<R>, DevError> {
         self.file = None;
+        self.files = self.files.saturating_add(1);
         match sealed(self.alloc, &self.host, &self.folder, &self.path, self.size) {
             Ok(sealed) => Ok(sealed),
             Err(_) => Err(DevError::Memory),

@@ -1,5 +1,5 @@
 ghost use Rattle.std.specs.Prelude.{◌≡◌, ◌^◌, ◌≤◌, ◌<◌, ◌+◌, None, Ok, length, IfOk};
-ghost use Rattle.dev_traits.specs.Causes.{HasCause, Rose};
+ghost use Rattle.dev_traits.specs.Causes.{HasCause};
 ghost use Rattle.dev_host.specs.Silent.{silent_view};
 
 use crate::disk::{
@@ -15,7 +15,8 @@ use std::{fs, io};
 
 /// A store in a folder: area A in the file `areaA`, the adopted file of number N in `fN`. Nothing is told of the bytes.
 ///
-/// Nothing is written before the first call that writes. What is forgotten is noted, and removed by `sweep`.
+/// Nothing is written before the first call that writes. What is forgotten is noted, and removed by `sweep`. A maker's file lies in the folder
+/// as `mK-N` until it is adopted.
 #[derive(Drop)]
 pub struct HostStore<R: Files> {
     alloc: Global,
@@ -45,6 +46,17 @@ fn number_of(name: &str) -> Option<u64> {
     }
 }
 
+// Whether it is the name of a maker's file.
+fn is_made(name: &str) -> bool {
+    match name.strip_prefix("m") {
+        Some(numbers) => match numbers.split_once('-') {
+            Some((maker, file)) => maker.parse::<u64>().is_ok() && file.parse::<u64>().is_ok(),
+            None => false,
+        },
+        None => false,
+    }
+}
+
 impl<R: Files + AllocGlobal + Clone + Drop> HostStore<R> {
     /// The store in a folder, which is made once something is written.
     pub fn new(host: R, folder: &str) -> Result<HostStore<R>, Memory>
@@ -67,13 +79,26 @@ impl<R: Files + AllocGlobal + Clone + Drop> HostStore<R> {
         })
     }
 
-    /// Removes the files that were forgotten. One that can't be removed stays.
+    /// Removes the files that were forgotten, and those that makers made and nobody adopted. One that can't be removed stays.
     pub fn sweep(self) {
         for number in &self.noted {
             if let Ok(path) = format!(in self.alloc; "{}/f{}", self.folder, number) {
                 let _ = fs::remove_file(&self.host, &path);
             }
         }
+        let _ = self.sweep_made();
+    }
+
+    // Removes the files that lie under a maker's name.
+    fn sweep_made(&self) -> io::Result<()> {
+        for entry in fs::read_dir(&self.host, &self.folder)? {
+            let entry = entry?;
+            if is_made(entry.file_name()) {
+                let path = path_in(self.alloc, &self.folder, entry.file_name())?;
+                let _ = fs::remove_file(&self.host, &path);
+            }
+        }
+        Ok(())
     }
 
     // Tells what the host answered, and counts its fault.

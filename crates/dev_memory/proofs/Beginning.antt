@@ -1,13 +1,13 @@
 -- A store in memory at first.
-use Rattle.std.proofs.Common.{◌≡◌, ℕ, true, List, [], ◌∷◌, length, map, Some, get_or, refl, sym, ◌∙◌, ap, subst, arith}
+use Rattle.std.proofs.Common.{◌≡◌, ◌≤◌, ◌<◌, ◌^◌, ℕ, zero, suc, true, List, [], ◌∷◌, length, map, Some, get_or, refl, sym, ◌∙◌, ap, subst, arith}
 use Rattle.std.specs.List.{list_all}
-use Rattle.std.proofs.lemmas.Bool.{and_from, le-leb}
+use Rattle.std.proofs.lemmas.Bool.{and_from, and_parts, le-leb, leb-true}
 use Rattle.std.proofs.Math.ListN.{get_or-map}
 use Rattle.std.specs.Ordering.{nat_cmp}
 use Rattle.std.specs.FinMap.{from_entries}
 use Rattle.dev_traits.specs.Image.{Image, area_of}
 use Rattle.dev_memory.specs.Areas.{AreaView, bytes_in, has_room}
-use Rattle.dev_memory.specs.Disk.{AreaDisk, at_rest, bytes_of, Reaches, disk_now, read_of, IsImage, Held, entries_at, settled_by, mem_view}
+use Rattle.dev_memory.specs.Disk.{AreaDisk, at_rest, bytes_of, Reaches, disk_now, read_of, IsImage, Held, entries_at, settled_by, is_short, mem_view}
 use Rattle.dev_memory.specs.Kept.{at_first, first_file, held, IsKept}
 use Rattle.dev_memory.specs.Store.{Begins}
 use Rattle.dev_memory.specs.declared.call.File.{File}
@@ -46,13 +46,14 @@ begins start entries h spare_calls spare_bytes is = record {
 }
 
 -- before any call all fits
-pub kept-first : (start : List (List ℕ)) (areas : List AreaView) (calls : List Call) (pieces : List ℕ) (files : List File) (rc rf rp : ℕ) → calls ≡ [] → pieces ≡ [] → length start ≡ 3 → list_all (settled_by 0) files ≡ true
+pub kept-first : (start : List (List ℕ)) (areas : List AreaView) (calls : List Call) (pieces : List ℕ) (files : List File) (rc rf rp : ℕ) → calls ≡ [] → pieces ≡ [] → length start ≡ 3 → list_all is_short start ≡ true → list_all (settled_by 0) files ≡ true
     → map bytes_in areas ≡ start → IsKept start areas calls pieces files rc rf rp 0 0
-kept-first start areas calls pieces files rc rf rp no_calls no_pieces three settled reads =
+kept-first start areas calls pieces files rc rf rp no_calls no_pieces three short settled reads =
     subst (λ (cs : List Call). IsKept start areas cs pieces files rc rf rp 0 0) (sym no_calls)
     (subst (λ (ps : List ℕ). IsKept start areas [] ps files rc rf rp 0 0) (sym no_pieces)
     (record {
       valid = record { three = three; settled = settled };
+      short = short;
       reads = reads ∙ sym (start-reads start);
       fits = refl;
       rooms = rooms-none areas;
@@ -63,3 +64,9 @@ kept-first start areas calls pieces files rc rf rp no_calls no_pieces three sett
 
 pub held-first : (start : List (List ℕ)) (calls : List Call) (pieces : List ℕ) (files : List File) → calls ≡ [] → held start pieces calls files ≡ at_first start files
 held-first start calls pieces files no_calls = ap (λ (cs : List Call). held start pieces cs files) no_calls
+
+-- each of some short texts is short
+pub short-at : (texts : List (List ℕ)) (i : ℕ) (text : List ℕ) → list_all is_short texts ≡ true → i < length texts → text ≡ get_or texts i text → length text ≤ 2 ^ 44
+short-at [] i text short lt is = absurd (omega (arith, lt))
+short-at (t ∷ texts) zero text short lt is = let here = leb-true (length t) (2 ^ 44) (and_parts (is_short t) (list_all is_short texts) short).0 in omega (arith, here, ap length is)
+short-at (t ∷ texts) (suc i) text short lt is = short-at texts i text (and_parts (is_short t) (list_all is_short texts) short).1 (omega (arith, lt)) is

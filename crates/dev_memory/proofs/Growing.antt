@@ -3,7 +3,7 @@ use Rattle.std.proofs.Common.{◌≡◌, ℕ, ◌+◌, ◌≤◌, ◌<◌, Bool,
 use Rattle.std.specs.List.{list_all}
 use Rattle.dev_traits.specs.Image.{area_of, overwritten}
 use Rattle.dev_memory.specs.Areas.{AreaView, bytes_in, has_room}
-use Rattle.dev_memory.specs.Disk.{Deed, Wrote, Synced, Blanked, ChangedFiles, AreaDisk, deeds, written, at_rest, area_in, wrote, blanked, after, replay, disk_now, read_of, settled_by, bytes_of}
+use Rattle.dev_memory.specs.Disk.{Deed, Wrote, Synced, Blanked, ChangedFiles, AreaDisk, deeds, written, at_rest, area_in, wrote, blanked, after, replay, disk_now, read_of, settled_by, bytes_of, most}
 use Rattle.dev_memory.specs.Kept.{held, grown, IsKept, IsValid, KeptView}
 use Rattle.dev_memory.specs.Laws.{three, area_read}
 use Rattle.dev_memory.specs.declared.call.Call.{Call}
@@ -43,6 +43,7 @@ module _ (start : List (List ℕ)) (areas : List AreaView) (calls : List Call) (
       → IsKept start areas' calls' pieces' files rc' rf' rp' sc' sb'
   keep deed areas' calls' pieces' rc' rf' rp' sc' sb' is reads fits rooms for_calls for_files for_pieces = record {
     valid = valid_after deed calls' pieces' is;
+    short = kept.short;
     reads = reads_after deed areas' calls' pieces' files is reads;
     fits = fits;
     rooms = rooms;
@@ -59,6 +60,7 @@ module _ (start : List (List ℕ)) (areas : List AreaView) (calls : List Call) (
       let longer : length (deeds pieces calls) + 1 ≡ length (deeds pieces calls') = omega (arith, ap length deeds_is, length-append (deeds pieces calls) (ChangedFiles ∷ [])) in
       record {
         valid = record { three = kept.valid.three; settled = subst (λ (n : ℕ). list_all (settled_by n) files' ≡ true) longer settled };
+        short = kept.short;
         reads = reads_after ChangedFiles areas calls' pieces files' deeds_is kept.reads;
         fits = omega (arith, kept.fits, ap written is, written-append calls (OnFiles ∷ []));
         rooms = kept.rooms;
@@ -111,14 +113,14 @@ module _ (start : List (List ℕ)) (areas : List AreaView) (calls : List Call) (
       (fits_write a at size piece false calls' pieces' is more counts) (rooms-less sb sb' areas less kept.rooms) for_calls for_files for_pieces
 
   pub keep_write : (a at size : ℕ) (piece : List ℕ) (v : AreaView) (calls' : List Call) (pieces' : List ℕ) (rc' rf' rp' sc' sb' : ℕ) → calls' ≡ calls ++ Write a at size true ∷ [] → pieces' ≡ pieces ++ piece → size ≡ length piece
-      → 1 ≤ length (area_of (read_of (disk_now (held start pieces calls files))) a) → at ≤ length (area_of (read_of (disk_now (held start pieces calls files))) a)
+      → 1 ≤ length (area_of (read_of (disk_now (held start pieces calls files))) a) → at ≤ length (area_of (read_of (disk_now (held start pieces calls files))) a) → at + length piece ≤ most
       → v.bytes ≡ overwritten (area_of (read_of (disk_now (held start pieces calls files))) a) at piece → sb' ≤ v.room
       → sb' ≤ sb → sc' ≤ rc' → sc' ≤ rf' → sb' ≤ rp' → IsKept start (set areas a v) calls' pieces' files rc' rf' rp' sc' sb'
-  keep_write a at size piece v calls' pieces' rc' rf' rp' sc' sb' is more counts some inside bytes room less for_calls for_files for_pieces =
+  keep_write a at size piece v calls' pieces' rc' rf' rp' sc' sb' is more counts some inside short bytes room less for_calls for_files for_pieces =
       let read = area_read (disk_now (held start pieces calls files)) a in
       keep (Wrote a at piece true) (set areas a v) calls' pieces' rc' rf' rp' sc' sb' (write_deeds a at size piece true calls' pieces' is more counts)
       (reads-set areas Disks a v (wrote at piece true (area_in Disks a)) kept.reads
-      (bytes ∙ ap (λ (l : List ℕ). overwritten l at piece) read ∙ sym (wrote-bytes at piece true (area_in Disks a) (subst (λ (l : List ℕ). 1 ≤ length l) read some) (subst (λ (l : List ℕ). at ≤ length l) read inside))))
+      (bytes ∙ ap (λ (l : List ℕ). overwritten l at piece) read ∙ sym (wrote-bytes at piece true (area_in Disks a) (subst (λ (l : List ℕ). 1 ≤ length l) read some) (subst (λ (l : List ℕ). at ≤ length l) read inside) short)))
       (fits_write a at size piece true calls' pieces' is more counts) (rooms-set sb' areas a v (rooms-less sb sb' areas less kept.rooms) room) for_calls for_files for_pieces
 
 -- the value that contracts see

@@ -106,10 +106,10 @@ module _ (disk : Disk) (are_three : length disk.areas ≡ 3) (a : ℕ) (in_range
     files = is.files;
   }
 
-  wrote_is : (at : ℕ) (piece : List ℕ) (ok : Bool) (d : AreaDisk) → can_write at d.bytes ≡ true → wrote at piece ok d ≡ record { bytes = if ok then overwritten d.bytes at piece else d.bytes; base = d.base; steps = Some (at, length piece) ∷ d.steps }
+  wrote_is : (at : ℕ) (piece : List ℕ) (ok : Bool) (d : AreaDisk) → can_write at (length piece) d.bytes ≡ true → wrote at piece ok d ≡ record { bytes = if ok then overwritten d.bytes at piece else d.bytes; base = d.base; steps = Some (at, length piece) ∷ d.steps }
   wrote_is at piece ok d can = ap (λ (b : Bool). if b then record { bytes = if ok then overwritten d.bytes at piece else d.bytes; base = d.base; steps = Some (at, length piece) ∷ d.steps } else d) can
 
-  pub write_step : (at : ℕ) (piece : List ℕ) (ok : Bool) → can_write at (area_disk disk a).bytes ≡ true → (i : Image) → IsImage (with_area_disk a (wrote at piece ok) disk) i → From (TornIn a at (length piece)) disk i
+  pub write_step : (at : ℕ) (piece : List ℕ) (ok : Bool) → can_write at (length piece) (area_disk disk a).bytes ≡ true → (i : Image) → IsImage (with_area_disk a (wrote at piece ok) disk) i → From (TornIn a at (length piece)) disk i
   write_step at piece ok can i is =
       let at_a : Reaches (area_disk disk a).base (Some (at, length piece) ∷ (area_disk disk a).steps) (area_of i a) =
       subst (λ (d : AreaDisk). Reaches d.base d.steps (area_of i a)) (area_at (wrote at piece ok) ∙ wrote_is at piece ok (area_disk disk a) can) (is.areas a) in (

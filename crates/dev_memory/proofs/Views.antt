@@ -10,7 +10,7 @@ use Rattle.std.specs.FinMap.Entries.{find}
 use Rattle.dev_traits.specs.Image.{Image, area_of, file, overwritten, with_area, with_file, with_files_of, Same, Elsewhere, TornIn, Blanked, Forgets, ForgetsSome}
 use Rattle.dev_traits.specs.View.{Leaves, Calm}
 use Rattle.dev_memory.specs.Disk as disk
-use Rattle.dev_memory.specs.Disk.{Deed, Wrote, Synced, ChangedFiles, AreaDisk, Disk, at_rest, area_in, area_disk, Reaches, IsImage, can_write, wrote, blanked, after, entries_at, Held, disk_now, bytes_of, read_of, mem_view, never, is_in, closed}
+use Rattle.dev_memory.specs.Disk.{Deed, Wrote, Synced, ChangedFiles, AreaDisk, Disk, at_rest, area_in, area_disk, Reaches, IsImage, most, can_write, wrote, blanked, after, entries_at, Held, disk_now, bytes_of, read_of, mem_view, never, is_in, closed}
 use Rattle.dev_memory.specs.Kept.{grown, with_files, IsValid, IsNewFile}
 use Rattle.dev_memory.specs.Laws.{area_read, sound, three}
 use Rattle.dev_memory.specs.declared.call.File.{File}
@@ -71,21 +71,21 @@ module _ (h h' : Held) (valid : IsValid h) (a : ℕ) (lt : a < 3) where
   area_now : (deed : Deed) → h' ≡ grown h deed → disk_now h' ≡ record { areas = after deed (disk_now h).areas; files = (disk_now h).files }
   area_now deed is = ap disk_now is ∙ disk_grown h deed valid
 
-  can : (at : ℕ) → 1 ≤ length (area_of Old a) → at ≤ length (area_of Old a) → can_write at (area_disk (disk_now h) a).bytes ≡ true
-  can at long le = and_from _ _ (le-leb 1 _ (subst (λ (l : List ℕ). 1 ≤ length l) (area_read (disk_now h) a) long)) (le-leb at _ (subst (λ (l : List ℕ). at ≤ length l) (area_read (disk_now h) a) le))
+  can : (at n : ℕ) → 1 ≤ length (area_of Old a) → at ≤ length (area_of Old a) → at + n ≤ most → can_write at n (area_disk (disk_now h) a).bytes ≡ true
+  can at n long le short = and_from _ _ (and_from _ _ (le-leb 1 _ (subst (λ (l : List ℕ). 1 ≤ length l) (area_read (disk_now h) a) long)) (le-leb at _ (subst (λ (l : List ℕ). at ≤ length l) (area_read (disk_now h) a) le))) (le-leb _ _ short)
 
-  pub write_crash : (at : ℕ) (piece : List ℕ) (ok : Bool) → h' ≡ grown h (Wrote a at piece ok) → 1 ≤ length (area_of Old a) → at ≤ length (area_of Old a)
+  pub write_crash : (at : ℕ) (piece : List ℕ) (ok : Bool) → h' ≡ grown h (Wrote a at piece ok) → 1 ≤ length (area_of Old a) → at ≤ length (area_of Old a) → at + length piece ≤ most
       → (b : Bool) (f c y f' c' y' : ℕ) → Leaves (TornIn a at (length piece)) (mem_view h b f c y) (mem_view h' b f' c' y')
-  write_crash at piece ok is long le = area_call (TornIn a at (length piece)) (Wrote a at piece ok) is (write_step (disk_now h) (three h valid.three) a lt at piece ok (can at long le))
+  write_crash at piece ok is long le short = area_call (TornIn a at (length piece)) (Wrote a at piece ok) is (write_step (disk_now h) (three h valid.three) a lt at piece ok (can at (length piece) long le short))
 
-  pub write_read : (at : ℕ) (piece : List ℕ) (ok : Bool) → h' ≡ grown h (Wrote a at piece ok) → 1 ≤ length (area_of Old a) → at ≤ length (area_of Old a)
+  pub write_read : (at : ℕ) (piece : List ℕ) (ok : Bool) → h' ≡ grown h (Wrote a at piece ok) → 1 ≤ length (area_of Old a) → at ≤ length (area_of Old a) → at + length piece ≤ most
       → read_of (disk_now h') ≡ with_area a (if ok then overwritten (area_of Old a) at piece else area_of Old a) Old
-  write_read at piece ok is long le =
+  write_read at piece ok is long le short =
       let read = area_read (disk_now h) a in
       let some : 1 ≤ length (area_disk (disk_now h) a).bytes = subst (λ (l : List ℕ). 1 ≤ length l) read long in
       let inside : at ≤ length (area_disk (disk_now h) a).bytes = subst (λ (l : List ℕ). at ≤ length l) read le in
       let areas = map-set bytes_of (disk_now h).areas a (wrote at piece ok (area_disk (disk_now h) a))
-      ∙ ap (set (map bytes_of (disk_now h).areas) a) (wrote-bytes at piece ok (area_disk (disk_now h) a) some inside
+      ∙ ap (set (map bytes_of (disk_now h).areas) a) (wrote-bytes at piece ok (area_disk (disk_now h) a) some inside short
       ∙ ap (λ (l : List ℕ). if ok then overwritten l at piece else l) (sym read)) in
       ap read_of (area_now (Wrote a at piece ok) is) ∙ (λ i. record { areas = areas i; files = (disk_now h).files })
 

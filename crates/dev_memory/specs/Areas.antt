@@ -1,5 +1,5 @@
 -- An area of a store, as contracts see it.
-use Rattle.std.specs.Prelude.{ℕ, List, nat_le, Bool}
+use Rattle.std.specs.Prelude.{ℕ, ◌≤◌, ◌^◌, List, nat_le, Bool}
 
 pub record AreaView : Type 0 where
   pub bytes : List ℕ
@@ -11,3 +11,8 @@ bytes_in area = area.bytes
 
 abbrev pub has_room : ℕ → AreaView → Bool
 has_room more area = nat_le more area.room
+
+-- it has memory for one byte, and no more than the most bytes
+pub record IsArea (capacity size : ℕ) : Type 0 where
+  pub allocated : 1 ≤ capacity
+  pub short : size ≤ 2 ^ 44

@@ -64,13 +64,20 @@ pub record IsImage (disk : Disk) (image : Image) : Type 0 where
   pub areas : (a : ℕ) → Reaches (area_disk disk a).base (area_disk disk a).steps (area_of image a)
   pub files : (number : ℕ) (bytes : List ℕ) → get disk.files number ≡ Some bytes → file image number ≡ Some bytes
 
--- a write outside what is there isn't asked for, and changes nothing
-abbrev pub can_write : ℕ → List ℕ → Bool
-can_write at bytes = nat_le 1 (length bytes) && nat_le at (length bytes)
+-- the most bytes that an area or a file has
+abbrev pub most : ℕ
+most = 2 ^ 44
+
+abbrev pub is_short : List ℕ → Bool
+is_short bytes = nat_le (length bytes) most
+
+-- a write of so many bytes outside what is there, or past the most, isn't asked for, and changes nothing
+abbrev pub can_write : ℕ → ℕ → List ℕ → Bool
+can_write at n bytes = (nat_le 1 (length bytes) && nat_le at (length bytes)) && nat_le (at + n) most
 
 abbrev pub wrote : ℕ → List ℕ → Bool → AreaDisk → AreaDisk
 wrote at piece ok d =
-    if can_write at d.bytes then record {
+    if can_write at (length piece) d.bytes then record {
       bytes = if ok then overwritten d.bytes at piece else d.bytes;
       base = d.base;
       steps = Some (at, length piece) ∷ d.steps;

@@ -14,11 +14,11 @@ use Rattle.dev_memory.specs.declared.inputs.MemSource.{MemSource}
 abbrev pub files_of : MemInputs → Files
 files_of inputs = from_entries inputs.files.items
 
--- how many asks failed, and how many sources that were given back had a fault
+-- how many asks failed, and how many takes of the sources that were given back
 abbrev pub faults_of : MemInputs → ℕ
 faults_of inputs = inputs.faults
 
--- the takes of the sources that were given back
+-- how many takes the sources that were given back have made
 abbrev pub takes_of : MemInputs → ℕ
 takes_of inputs = inputs.takes
 
@@ -33,15 +33,26 @@ left_of src = drop src.at src.bytes.items
 abbrev pub source_faults : MemSource → ℕ
 source_faults src = src.faults
 
+-- how many takes it has made
 abbrev pub source_takes : MemSource → ℕ
 source_takes src = src.takes
+
+-- how many takes were made before its first
+abbrev pub source_before : MemSource → ℕ
+source_before src = src.takes_before
 
 abbrev pub source_fails : MemSource → List ℕ
 source_fails src = src.fails.items
 
 -- the number of the next take, which stops at the last u64
 abbrev pub next_take : MemSource → ℕ
-next_take src = min (src.takes + 1) (2 ^ 64 - 1)
+next_take src = min (src.takes_before + (src.takes + 1)) (2 ^ 64 - 1)
+
+-- one take more is counted, and what it fails at stays
+pub record Goes (old new : MemSource) : Type 0 where
+  pub takes : source_takes new ≡ min (source_takes old + 1) (2 ^ 64 - 1)
+  pub takes_before : source_before new ≡ source_before old
+  pub fails : source_fails new ≡ source_fails old
 
 -- a take gives as many bytes as are left and go into the buffer, the end where none are left, and fails exactly where its number is listed
 abbrev pub TakesAs : MemSource → ℕ → Taken → Type 0
@@ -51,7 +62,7 @@ TakesAs src size (Bytes n) = (n ≡ min size (length (left_of src))) × (Contain
 
 -- a source goes on with the numbers of the takes before it, and fails where its inputs are listed to
 abbrev pub NumberedOn : MemInputs → Asked MemSource → Type 0
-NumberedOn inputs (Got src) = (source_takes src ≡ takes_of inputs) × (source_fails src ≡ fails_of inputs)
+NumberedOn inputs (Got src) = (source_before src ≡ takes_of inputs) × (source_takes src ≡ 0) × (source_fails src ≡ fails_of inputs)
 NumberedOn inputs Absent = ⊤
 NumberedOn inputs asked.Failed = ⊤
 NumberedOn inputs Memory = ⊤

@@ -2,7 +2,7 @@
 use Rattle.std.specs.Prelude.{◌≡◌, ℕ, ◌+◌, ◌≤◌, true, List, [], ◌∷◌, ◌++◌, length, map}
 use Rattle.std.specs.List.{list_all}
 use Rattle.dev_memory.specs.Areas.{AreaView, bytes_in, has_room}
-use Rattle.dev_memory.specs.Disk.{Held, Deed, ChangedFiles, closed, deeds, written, bytes_of, disk_now, settled_by, never}
+use Rattle.dev_memory.specs.Disk.{Held, Deed, ChangedFiles, closed, deeds, written, bytes_of, disk_now, settled_by, is_short, never}
 use Rattle.dev_memory.specs.declared.call.Call.{Call}
 use Rattle.dev_memory.specs.declared.call.File.{File}
 
@@ -29,6 +29,7 @@ pub record IsValid (h : Held) : Type 0 where
 -- the parts fit each other, and there is room for what is spare
 pub record IsKept (start : List (List ℕ)) (areas : List AreaView) (calls : List Call) (pieces : List ℕ) (files : List File) (calls_room files_room pieces_room spare_calls spare_bytes : ℕ) : Type 0 where
   pub valid : IsValid (held start pieces calls files)
+  pub short : list_all is_short start ≡ true
   pub reads : map bytes_in areas ≡ map bytes_of (disk_now (held start pieces calls files)).areas
   pub fits : written calls ≡ length pieces
   pub rooms : list_all (has_room spare_bytes) areas ≡ true

@@ -1,12 +1,12 @@
 -- The laws of the store in memory.
-use Rattle.std.specs.Prelude.{◌≡◌, ◌⊎◌, ℕ, zero, suc, ◌+◌, ◌≤◌, nat_le, Bool, true, false, if◌then◌else◌, List, [], ◌∷◌, ◌++◌, length, set, map, take, drop, Some}
+use Rattle.std.specs.Prelude.{◌≡◌, ◌⊎◌, ℕ, zero, suc, ◌+◌, ◌≤◌, nat_le, Bool, true, false, ◌&&◌, if◌then◌else◌, List, [], ◌∷◌, ◌++◌, length, set, map, take, drop, Some}
 use Rattle.std.proofs.Common.{inl, inr, ⊎_elim, refl, sym, ◌∙◌, ap, subst, arith, length-append}
 use Rattle.std.proofs.lemmas.List.{take_all, length-set, length-map, take_at, drop_at, length-take-le, length-drop, append_assoc}
 use Rattle.std.proofs.Math.ListN.{get_or-map}
 use Rattle.std.proofs.lemmas.Bool.{and_parts, leb-true}
 use Rattle.std.specs.FinMap.{from_entries}
 use Rattle.dev_traits.specs.Image.{Image, area_of, file, overwritten, Torn}
-use Rattle.dev_memory.specs.Disk.{Deed, Wrote, Synced, Blanked, ChangedFiles, AreaDisk, Disk, at_rest, area_in, area_disk, Reaches, IsImage, can_write, wrote, blanked, after, replay, entries_at, Held, disk_now, disk_at, bytes_of, read_of, MightSince}
+use Rattle.dev_memory.specs.Disk.{Deed, Wrote, Synced, Blanked, ChangedFiles, AreaDisk, Disk, at_rest, area_in, area_disk, Reaches, IsImage, most, can_write, wrote, blanked, after, replay, entries_at, Held, disk_now, disk_at, bytes_of, read_of, MightSince}
 
 pub torn_same : (at n : ℕ) (bytes : List ℕ) → Torn at n bytes bytes
 torn_same at n bytes = record { before = refl; after = refl; no_shorter = omega arith; no_longer = omega arith }
@@ -47,7 +47,7 @@ pub at_rest-IsSound : (bytes : List ℕ) → IsSound (at_rest bytes)
 at_rest-IsSound bytes = record { reads = refl; empty = λ none c is. inl (is ∙ none) }
 
 wrote-IsSound : (at : ℕ) (piece : List ℕ) (ok : Bool) (d : AreaDisk) → IsSound d → IsSound (wrote at piece ok d)
-wrote-IsSound at piece ok d sound = go (can_write at d.bytes) refl
+wrote-IsSound at piece ok d sound = go (can_write at (length piece) d.bytes) refl
   where
     at_ok : (b : Bool) → at ≤ length d.bytes → 1 ≤ length d.bytes → IsSound (record { bytes = if b then overwritten d.bytes at piece else d.bytes; base = d.base; steps = Some (at, length piece) ∷ d.steps })
     at_ok true le long = record {
@@ -59,8 +59,10 @@ wrote-IsSound at piece ok d sound = go (can_write at d.bytes) refl
       empty = λ none c is. absurd (omega (arith, ap length none));
     }
 
-    go : (b : Bool) → can_write at d.bytes ≡ b → IsSound (if b then record { bytes = if ok then overwritten d.bytes at piece else d.bytes; base = d.base; steps = Some (at, length piece) ∷ d.steps } else d)
-    go true is = let parts = and_parts (nat_le 1 (length d.bytes)) (nat_le at (length d.bytes)) is in at_ok ok (leb-true at (length d.bytes) parts.1) (leb-true 1 (length d.bytes) parts.0)
+    go : (b : Bool) → can_write at (length piece) d.bytes ≡ b → IsSound (if b then record { bytes = if ok then overwritten d.bytes at piece else d.bytes; base = d.base; steps = Some (at, length piece) ∷ d.steps } else d)
+    go true is =
+        let inside = and_parts (nat_le 1 (length d.bytes) && nat_le at (length d.bytes)) (nat_le (at + length piece) most) is in
+        let parts = and_parts (nat_le 1 (length d.bytes)) (nat_le at (length d.bytes)) inside.0 in at_ok ok (leb-true at (length d.bytes) parts.1) (leb-true 1 (length d.bytes) parts.0)
     go false is = sound
 
 blanked-IsSound : (ok : Bool) (d : AreaDisk) → IsSound d → IsSound (blanked ok d)

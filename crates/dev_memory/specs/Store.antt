@@ -1,5 +1,5 @@
 -- A store in memory as it begins.
-use Rattle.std.specs.Prelude.{◌≡◌, ◌⊎◌, ℕ, ◌+◌, ◌-◌, ◌^◌, min, [], ◌∷◌, Some, IsTrue, Result, IsErr}
+use Rattle.std.specs.Prelude.{◌≡◌, ◌⊎◌, ℕ, ◌+◌, ◌-◌, ◌^◌, min, List, [], ◌∷◌, Some, IsTrue, Result, IsErr}
 use Rattle.std.specs.Arc.{arc_value}
 use Rattle.std.specs.FinMap.{empty}
 use Rattle.dev_traits.specs.Image as seen
@@ -40,12 +40,22 @@ pub record SameCounts (old new : View) : Type 0 where
   pub spare_calls : new.spare_calls ≡ old.spare_calls
   pub spare_bytes : new.spare_bytes ≡ old.spare_bytes
 
+-- the numbers of the calls that fail: of its own, of each maker's and of each reader's
+abbrev pub fails_of : MemStore → List ℕ
+fails_of s = s.fails.items
+
+abbrev pub maker_fails_of : MemStore → List ℕ
+maker_fails_of s = (arc_value s.maker_fails).items
+
+abbrev pub reader_fails_of : MemStore → List ℕ
+reader_fails_of s = (arc_value s.reader_fails).items
+
 -- the store fails as these faults say, from its first call on
 pub record Lists (faults : Faults) (s : MemStore) : Type 0 where
-  pub listed : s.fails.items ≡ faults.store.items
+  pub listed : fails_of s ≡ faults.store.items
   pub stop : s.stop ≡ faults.stop
-  pub makers : (arc_value s.maker_fails).items ≡ faults.maker.items
-  pub readers : (arc_value s.reader_fails).items ≡ faults.reader.items
+  pub makers : maker_fails_of s ≡ faults.maker.items
+  pub readers : reader_fails_of s ≡ faults.reader.items
   pub first : s.count ≡ 0
 
 -- the number of the next call that can answer a fault, which stops at the last u64
@@ -54,23 +64,23 @@ next_call s = min (s.count + 1) (2 ^ 64 - 1)
 
 -- that call is to fail: it is listed, or `stop` was reached
 abbrev pub IsNextStruck : MemStore → Type 0
-IsNextStruck s = IsStruck s.fails.items s.stop (next_call s)
+IsNextStruck s = IsStruck (fails_of s) s.stop (next_call s)
 
 -- the call was counted, and the same calls are to fail as before
 pub record Counted (old new : MemStore) : Type 0 where
   pub count : new.count ≡ next_call old
-  pub fails : new.fails.items ≡ old.fails.items
+  pub fails : fails_of new ≡ fails_of old
   pub stop : new.stop ≡ old.stop
-  pub makers : (arc_value new.maker_fails).items ≡ (arc_value old.maker_fails).items
-  pub readers : (arc_value new.reader_fails).items ≡ (arc_value old.reader_fails).items
+  pub makers : maker_fails_of new ≡ maker_fails_of old
+  pub readers : reader_fails_of new ≡ reader_fails_of old
 
 -- a call that can't answer a fault isn't counted
 pub record Uncounted (old new : MemStore) : Type 0 where
   pub count : new.count ≡ old.count
-  pub fails : new.fails.items ≡ old.fails.items
+  pub fails : fails_of new ≡ fails_of old
   pub stop : new.stop ≡ old.stop
-  pub makers : (arc_value new.maker_fails).items ≡ (arc_value old.maker_fails).items
-  pub readers : (arc_value new.reader_fails).items ≡ (arc_value old.reader_fails).items
+  pub makers : maker_fails_of new ≡ maker_fails_of old
+  pub readers : reader_fails_of new ≡ reader_fails_of old
 
 -- A call fails exactly where it is to, or for this.
 pub record FailsOnly {T E : Type 0} (Cause : Type 0) (old new : MemStore) (result : Result T E) : Type 0 where

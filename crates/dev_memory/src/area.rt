@@ -1,29 +1,40 @@
-ghost use Rattle.std.specs.Prelude.{◌≡◌, ◌+◌, ◌-◌, ◌≤◌, ◌∷◌, [], length, OnOk, IfOk};
+ghost use Rattle.std.specs.Prelude.{◌≡◌, ◌+◌, ◌-◌, ◌^◌, ◌<◌, ◌≤◌, ◌∷◌, [], length, OnOk, IfOk, IsTrue, IsFalse};
 ghost use Rattle.dev_traits.specs.Image.{overwritten};
 
 use dev_traits::Memory;
 use std::alloc::{AllocError, Global};
 use std::marker::Model;
 
-/// An area of a store, with room to grow. Contracts see its bytes and how many more it has room for.
+const MOST: u64 = 1 << 44;
+
+/// Whether an area that a piece is written to is short enough then.
+pub fn is_within(at: u64, piece: &[u8]) -> bool
+    ensures within { IsTrue result → at + length piece.now ≤ 2 ^ 44 }
+    ensures past { IsFalse result → 2 ^ 44 < at + length piece.now }
+{
+    at <= MOST && piece.len() as u64 <= MOST - at
+}
+
+/// An area of a store, with room to grow, of at most 2^44 bytes. Contracts see its bytes and how many more it has room for.
 #[derive(Drop)]
 pub struct Area {
     bytes: Vec<u8>,
 }
 
 impl Model for Area {
-    ghost use Rattle.std.specs.Prelude.{◌-◌, ◌≤◌, max, vec_len, vec_capacity};
-    ghost use Rattle.dev_memory.specs.Areas.{AreaView};
+    ghost use Rattle.std.specs.Prelude.{◌-◌, max, vec_len, vec_capacity};
+    ghost use Rattle.dev_memory.specs.Areas.{AreaView, IsArea};
 
     ghost Value = { AreaView };
 
     ghost view = { λ a. record { bytes = a.bytes.items; room = vec_capacity a.bytes - max (vec_len a.bytes) 1 } };
 
-    ghost invariant = { λ a. 1 ≤ vec_capacity a.bytes };
+    ghost invariant = { λ a. IsArea (vec_capacity a.bytes) (vec_len a.bytes) };
 }
 
 impl Area {
     pub fn new(bytes: Vec<u8>) -> Result<Area, Memory>
+        requires { length bytes.items ≤ 2 ^ 44 }
         ensures { IfOk result (λ area. area.bytes ≡ bytes.items) }
     {
         let mut bytes = bytes;
@@ -33,6 +44,7 @@ impl Area {
 
     /// An area with the bytes of a slice.
     pub fn from_slice(alloc: Global, bytes: &[u8]) -> Result<Area, Memory>
+        requires { length bytes.now ≤ 2 ^ 44 }
         ensures { IfOk result (λ area. area.bytes ≡ bytes.now) }
     {
         Area::new(Vec::from_slice(alloc, bytes)?)
@@ -52,6 +64,7 @@ impl Area {
     pub fn write(&mut self, at: usize, piece: &[u8])
         requires inside { at ≤ length self.old.bytes }
         requires room { length piece.now ≤ self.old.room }
+        requires short { at + length piece.now ≤ 2 ^ 44 }
         ensures written { self.new.bytes ≡ overwritten self.old.bytes at piece.now }
         ensures spends { self.old.room ≤ self.new.room + length piece.now }
     {
@@ -63,6 +76,7 @@ impl Area {
     /// Takes memory, and writes over what is there, and past the end.
     pub fn overwrite(&mut self, at: usize, piece: &[u8]) -> Result<(), Memory>
         requires inside { at ≤ length self.old.bytes }
+        requires short { at + length piece.now ≤ 2 ^ 44 }
         ensures written { OnOk result (self.new.bytes ≡ overwritten self.old.bytes at piece.now) }
     {
         self.reserve(piece.len())?;
@@ -80,13 +94,15 @@ impl Area {
     }
 
     pub fn as_slice(&self) -> &[u8]
-        ensures { result.now ≡ self.now.bytes }
+        ensures bytes { result.now ≡ self.now.bytes }
+        ensures short { length self.now.bytes ≤ 2 ^ 44 }
     {
         self.bytes.as_slice()
     }
 
     pub fn into_vec(self) -> Vec<u8>
-        ensures { result.items ≡ self.bytes }
+        ensures bytes { result.items ≡ self.bytes }
+        ensures short { length self.bytes ≤ 2 ^ 44 }
     {
         let Area { bytes } = self;
         bytes

@@ -1,9 +1,9 @@
-ghost use Rattle.std.specs.Prelude.{◌≡◌, ◌+◌, ◌*◌, ◌<◌, ◌≤◌, ℕ, List, [], ◌∷◌, ◌⊎◌, true, false, length, take, IfOk, OnOk};
+ghost use Rattle.std.specs.Prelude.{◌≡◌, ◌+◌, ◌*◌, ◌^◌, ◌<◌, ◌≤◌, ℕ, List, [], ◌∷◌, ◌⊎◌, true, false, length, take, IfOk, OnOk, IsTrue};
 ghost use Rattle.dev_traits.specs.Image.{Torn};
 ghost use Rattle.dev_memory.specs.Disk.{AreaDisk, at_rest, can_write, wrote, deeds, written};
 ghost use Rattle.dev_memory.specs.Crash.{size_of, deed_of, is_on, on_area, one_after, one_replay, settles, IsAtRest, IsLeft, Stands, Left};
 
-use crate::area::Area;
+use crate::area::{Area, is_within};
 use crate::call::Call;
 use dev_traits::Memory;
 use pk_values::Octets;
@@ -115,6 +115,7 @@ fn tear(
     done: bool,
     trace: Trace,
 ) -> Result<(), Memory>
+    requires { at + length piece.now ≤ 2 ^ 44 }
     ensures torn { OnOk result (Torn at (length piece.now) left.old.bytes left.new.bytes) }
     ensures lost { trace ≡ Trace.Lost → left.new.bytes ≡ left.old.bytes }
 {
@@ -126,17 +127,19 @@ fn tear(
     left.overwrite(start, &bytes)
 }
 
-fn may_write(at: u64, bytes: &[u8]) -> bool
-    ensures { result ≡ can_write at bytes.now }
+fn may_write(at: u64, piece: &[u8], bytes: &[u8]) -> bool
+    ensures can { result ≡ can_write at (length piece.now) bytes.now }
+    ensures inside { IsTrue result → at ≤ length bytes.now }
+    ensures short { IsTrue result → at + length piece.now ≤ 2 ^ 44 }
 {
-    1 <= bytes.len() && at <= bytes.len() as u64
+    1 <= bytes.len() && at <= bytes.len() as u64 && is_within(at, piece)
 }
 
 // A write, as it reads after it.
 fn read_write(bytes: &mut Area, at: u64, piece: &[u8], done: bool) -> Result<(), Memory>
     ensures { OnOk result ((d : AreaDisk) → d.bytes ≡ bytes.old.bytes → (wrote at piece.now done d).bytes ≡ bytes.new.bytes) }
 {
-    if !done || !may_write(at, bytes.as_slice()) {
+    if !done || !may_write(at, piece, bytes.as_slice()) {
         return Ok(());
     }
     bytes.overwrite(at as usize, piece)
@@ -187,11 +190,11 @@ fn leave_write(
     done: bool,
     trace: Trace,
 ) -> Result<(), Memory>
-    ensures torn { OnOk result (can_write at bytes.now.bytes ≡ true → Torn at (length piece.now) left.old.bytes left.new.bytes) }
-    ensures same { can_write at bytes.now.bytes ≡ false → left.new.bytes ≡ left.old.bytes }
+    ensures torn { OnOk result (can_write at (length piece.now) bytes.now.bytes ≡ true → Torn at (length piece.now) left.old.bytes left.new.bytes) }
+    ensures same { can_write at (length piece.now) bytes.now.bytes ≡ false → left.new.bytes ≡ left.old.bytes }
     ensures lost { trace ≡ Trace.Lost → left.new.bytes ≡ left.old.bytes }
 {
-    if !may_write(at, bytes.as_slice()) {
+    if !may_write(at, piece, bytes.as_slice()) {
         return Ok(());
     }
     tear(alloc, left, at, piece, done, trace)
@@ -347,7 +350,9 @@ pub fn area_left(
     requires fits { written calls.now ≤ length pieces.now }
     requires there { area < 3 }
     requires crash { 1 ≤ pick }
-    ensures { IfOk result (λ left. Left pick (one_replay area (deeds pieces.now calls.now) (at_rest start.now)) left) }
+    requires short { length start.now ≤ 2 ^ 44 }
+    ensures left { IfOk result (λ left. Left pick (one_replay area (deeds pieces.now calls.now) (at_rest start.now)) left) }
+    ensures short { IfOk result (λ left. length left ≤ 2 ^ 44) }
 {
     let (early, late) = calls.split_at(last_rest(calls, area));
     let mut bytes = Area::from_slice(alloc, start)?;

@@ -1,17 +1,20 @@
-ghost use Rattle.std.specs.Prelude.{◌≡◌, ◌≤◌, ◌+◌, ◌-◌, ◌^◌, ℕ, [], min, Option, Some, None, IsTrue, IsFalse, Contains};
-ghost use Rattle.dev_traits.specs.Causes.{Rose};
+ghost use Rattle.std.specs.Prelude.{◌≡◌, ◌≤◌, ◌+◌, ◌-◌, ◌^◌, ℕ, [], min, Option, Some, None, IsTrue, IsFalse};
+ghost use Rattle.dev_traits.specs.Causes.{Counts};
 ghost use Rattle.dev_memory.specs.Strikes.{IsStruck};
 
 use std::alloc::Global;
 use std::sync::Arc;
 
-/// Which calls fail, by their numbers from 1: of the store, of each maker and of each reader. From call `stop` of the store on every call
-/// of the store fails. A call that can't answer a fault isn't counted.
+/// Which calls fail, by their numbers from 1, in any order. A call that can't answer a fault has no number.
 #[derive(Drop)]
 pub struct Faults {
+    /// Calls of the store.
     pub store: Vec<u64>,
+    /// Calls of each maker.
     pub maker: Vec<u64>,
+    /// Calls of each reader.
     pub reader: Vec<u64>,
+    /// The number of the store's call from which on each fails.
     pub stop: Option<u64>,
 }
 
@@ -49,13 +52,10 @@ fn is_past(stop: Option<u64>, number: u64) -> bool
 /// Counts a call, and tells whether it is to fail. Its fault is then counted.
 pub(crate) fn strikes(fails: &[u64], stop: Option<u64>, count: &mut u64, faults: &mut u64) -> bool
     ensures counted { count.new ≡ min (count.old + 1) (2 ^ 64 - 1) }
-    ensures listed { Contains fails.now count.new → IsTrue result }
-    ensures stopped { (number : ℕ) → stop ≡ Some number → number ≤ count.new → IsTrue result }
     ensures only { IsTrue result → IsStruck fails.now stop count.new }
     ensures all { IsStruck fails.now stop count.new → IsTrue result }
-    ensures rose { IsTrue result → Rose faults.old faults.new }
+    ensures counts { IsTrue result → Counts 1 faults.old faults.new }
     ensures same { IsFalse result → faults.new ≡ faults.old }
-    ensures later { faults.old ≤ faults.new }
 {
     *count = count.saturating_add(1);
     let strikes = fails.contains(count) || is_past(stop, *count);

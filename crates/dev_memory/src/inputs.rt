@@ -2,19 +2,20 @@ ghost use Rattle.std.specs.Prelude.{◌≡◌, ◌+◌, ◌-◌, ◌^◌, ◌<�
 ghost use Rattle.std.specs.Ordering.{nat_cmp};
 ghost use Rattle.std.specs.Cmp.Lexicographic.{slice_cmp};
 ghost use Rattle.std.specs.FinMap.Entries.{find};
-ghost use Rattle.dev_traits.specs.Streams.{Asks, Takes, TakeWithin, TakeCause, GivesBack};
-ghost use Rattle.dev_traits.specs.Causes.{Rose};
+ghost use Rattle.dev_traits.specs.Streams.{Asks, AskCause, Takes, TakeWithin, TakeCause};
+ghost use Rattle.dev_traits.specs.Causes.{Counts};
 
 use dev_traits::{Asked, Inputs, Source, Taken};
 use pk_values::Octets;
 use std::alloc::{AllocError, Global};
 
-/// A source over bytes in memory, which fails at the listed takes, counted from 1 over all sources of its inputs.
+/// A source over bytes in memory, which fails at the takes that its inputs list. Its own takes are numbered on from those before it.
 #[derive(Drop)]
 pub struct MemSource {
     bytes: Vec<u8>,
     at: usize,
     fails: Vec<u64>,
+    takes_before: u64,
     takes: u64,
     faults: u64,
 }
@@ -31,7 +32,7 @@ fn fill(into: &mut [u8], text: &[u8]) -> usize
 
 impl Source for MemSource {
     ghost use Rattle.std.specs.Prelude.{Some};
-    ghost use Rattle.dev_memory.specs.Inputs.{left_of, source_faults, source_takes, source_fails, next_take, TakesAs};
+    ghost use Rattle.dev_memory.specs.Inputs.{left_of, source_faults, TakesAs, Goes};
 
     ghost left = { λ src. Some (left_of src) };
 
@@ -43,10 +44,11 @@ impl Source for MemSource {
         ensures bytes { Takes (Some (left_of self.old)) (Some (left_of self.new)) into.new result }
         ensures cause { TakeCause (source_faults self.old) (source_faults self.new) result }
         ensures exactly { TakesAs self.old (length into.old) result }
-        ensures counted { source_takes self.new ≡ next_take self.old }
+        ensures goes { Goes self.old self.new }
     {
         self.takes = self.takes.saturating_add(1);
-        if self.fails.contains(&self.takes) {
+        let number = self.takes_before.saturating_add(self.takes);
+        if self.fails.contains(&number) {
             self.faults = self.faults.saturating_add(1);
             return Taken::Failed;
         }
@@ -61,7 +63,7 @@ impl Source for MemSource {
 
 /// Inputs in memory: of each name the first file listed with it. They fail at the listed takes, and each ask fails where 0 is listed.
 ///
-/// The takes of a source are numbered on from those of the sources that were given back before it was asked for.
+/// Takes are numbered from 1. Those of a source are numbered on from all takes of the sources that were given back before it was asked for.
 #[derive(Drop)]
 pub struct MemInputs {
     files: Vec<(Octets, Octets)>,
@@ -105,13 +107,15 @@ fn find_file<'a>(files: &'a [(Octets, Octets)], name: &[u8]) -> Option<&'a [u8]>
 
 fn open(alloc: Global, bytes: &[u8], fails: &[u64], takes: u64) -> Result<MemSource, AllocError>
     ensures left { IfOk result (λ src. (src.bytes.items ≡ bytes.now) × (src.at ≡ 0) × (src.faults ≡ 0)) }
-    ensures numbered { IfOk result (λ src. (src.fails.items ≡ fails.now) × (src.takes ≡ takes)) }
+    ensures fails { IfOk result (λ src. src.fails.items ≡ fails.now) }
+    ensures numbered { IfOk result (λ src. (src.takes_before ≡ takes) × (src.takes ≡ 0)) }
 {
     Ok(MemSource {
         bytes: Vec::from_slice(alloc, bytes)?,
         at: 0,
         fails: Vec::from_slice(alloc, fails)?,
-        takes,
+        takes_before: takes,
+        takes: 0,
         faults: 0,
     })
 }
@@ -128,11 +132,12 @@ impl Inputs for MemInputs {
 
     fn ask(&mut self, alloc: Global, name: &str) -> Asked<MemSource>
         ensures same { files_of self.new ≡ files_of self.old }
-        ensures counts { faults_of self.old ≤ faults_of self.new }
         ensures found { Asks (λ src. Some (left_of src)) source_faults (Some (files_of self.old)) name.now result }
-        ensures cause { result ≡ Asked.Failed → Rose (faults_of self.old) (faults_of self.new) }
+        ensures cause { AskCause (faults_of self.old) (faults_of self.new) result }
         ensures exactly { result ≡ Asked.Failed ↔ Contains (fails_of self.old) 0 }
         ensures numbered { NumberedOn self.old result }
+        ensures takes { takes_of self.new ≡ takes_of self.old }
+        ensures fails { fails_of self.new ≡ fails_of self.old }
     {
         if self.fails.contains(&0) {
             self.faults = self.faults.saturating_add(1);
@@ -149,12 +154,11 @@ impl Inputs for MemInputs {
 
     fn give_back(&mut self, src: MemSource)
         ensures same { files_of self.new ≡ files_of self.old }
-        ensures counts { GivesBack (source_faults src) (faults_of self.old) (faults_of self.new) }
-        ensures numbered { takes_of self.new ≡ source_takes src }
+        ensures counts { Counts (source_faults src) (faults_of self.old) (faults_of self.new) }
+        ensures takes { Counts (source_takes src) (takes_of self.old) (takes_of self.new) }
+        ensures fails { fails_of self.new ≡ fails_of self.old }
     {
-        self.takes = src.takes;
-        if src.faults > 0 {
-            self.faults = self.faults.saturating_add(1);
-        }
+        self.takes = self.takes.saturating_add(src.takes);
+        self.faults = self.faults.saturating_add(src.faults);
     }
 }

@@ -1,11 +1,12 @@
-ghost use Rattle.std.specs.Prelude.{◌≡◌, ◌+◌, ◌≤◌, ◌<◌, ◌++◌, ◌∷◌, [], ℕ, true, false, nat_eq, ◌&&◌, map, length, option_map, vec_len, vec_capacity, OnOk, OnErr, IfOk, IsTrue, IsFalse};
+ghost use Rattle.std.specs.Prelude.{◌≡◌, ◌+◌, ◌^◌, ◌≤◌, ◌<◌, ◌++◌, ◌∷◌, [], ℕ, true, false, nat_eq, ◌&&◌, map, length, option_map, vec_len, vec_capacity, OnOk, OnErr, IfOk, IsTrue, IsFalse};
 ghost use Rattle.dev_memory.specs.Spoils.{ChangesFile, ChangesOne, Spoils};
 ghost use Rattle.std.specs.Ordering.{nat_cmp};
 ghost use Rattle.std.specs.List.{list_all};
 ghost use Rattle.std.specs.FinMap.Entries.{find};
 ghost use Rattle.dev_traits.specs.Image.{area_of};
 ghost use Rattle.dev_memory.specs.Areas.{bytes_in, has_room};
-ghost use Rattle.dev_memory.specs.Disk.{Wrote, Synced, Blanked, ChangedFiles, disk_now, read_of, entries_at, stands_at, is_in, closed, never, settled_by};
+ghost use Rattle.dev_memory.specs.Disk.{Wrote, Synced, Blanked, ChangedFiles, disk_now, read_of, entries_at, stands_at, is_in, closed, never, settled_by, is_short};
+ghost use Rattle.dev_memory.specs.Images.{is_short_file, IsShort};
 
 use crate::area::Area;
 use crate::call::{Call, File, NEVER};
@@ -92,21 +93,28 @@ fn close_others(files: &mut [File], keep: &[u64], now: u64)
 }
 
 // Changes a byte of a file, and tells whether it did.
-fn change(file: &mut File, at: u64, byte: u8) -> bool
+fn change(alloc: Global, file: &mut File, at: u64, byte: u8) -> bool
     ensures done { IsTrue result → ChangesFile at byte file.old file.new }
     ensures same { IsFalse result → file.new ≡ file.old }
 {
-    at < file.bytes.as_slice().len() as u64 && file.bytes.change(at as usize, byte)
+    at < file.bytes.as_slice().len() as u64 && file.bytes.change(alloc, at as usize, byte).is_ok()
 }
 
 // Changes a byte of the file that is read under a number.
-fn change_file(files: &mut [File], number: u64, calls: u64, at: u64, byte: u8) -> bool
+fn change_file(
+    alloc: Global,
+    files: &mut [File],
+    number: u64,
+    calls: u64,
+    at: u64,
+    byte: u8,
+) -> bool
     ensures done { IsTrue result → ChangesOne number calls at byte files.old files.new }
     ensures same { IsFalse result → files.new ≡ files.old }
 {
     for i in 0..files.len() {
         if is_standing(&files[i], number, calls) {
-            return change(&mut files[i], at, byte);
+            return change(alloc, &mut files[i], at, byte);
         }
     }
     false
@@ -137,6 +145,7 @@ fn append(bytes: &mut Vec<u8>, piece: &[u8])
 
 // Areas with these bytes.
 fn areas_of(alloc: Global, start: &[Octets]) -> Result<Vec<Area>, Memory>
+    requires { list_all is_short start.now ≡ true }
     ensures { IfOk result (λ areas. map bytes_in areas.items ≡ start.now) }
 {
     let mut areas = Vec::new(alloc);
@@ -166,6 +175,7 @@ impl Kept {
     /// Three areas with these bytes, and these files, before any call.
     pub fn new(alloc: Global, start: Vec<Octets>, files: Vec<File>) -> Result<Kept, Memory>
         requires three { length start.items ≡ 3 }
+        requires short { list_all is_short start.items ≡ true }
         requires settled { list_all (settled_by 0) files.items ≡ true }
         ensures held { IfOk result (λ kept. kept.held ≡ at_first start.items files.items) }
         ensures valid { IfOk result (λ kept. IsValid kept.held) }
@@ -185,7 +195,8 @@ impl Kept {
     /// The bytes of an area as it reads.
     pub fn area(&self, area: u32) -> &[u8]
         requires { area < 3 }
-        ensures { result.now ≡ area_of (read_of (disk_now self.now.held)) area }
+        ensures bytes { result.now ≡ area_of (read_of (disk_now self.now.held)) area }
+        ensures short { length result.now ≤ 2 ^ 44 }
     {
         self.areas[area as usize].as_slice()
     }
@@ -200,7 +211,8 @@ impl Kept {
     // What a crash may leave of an area, by number.
     fn left(&self, alloc: Global, area: u32, pick: u64) -> Result<Octets, Memory>
         requires { area < 3 }
-        ensures { IfOk result (λ left. Left pick (area_disk (disk_now self.now.held) area) left) }
+        ensures left { IfOk result (λ left. Left pick (area_disk (disk_now self.now.held) area) left) }
+        ensures short { IfOk result (λ left. length left ≤ 2 ^ 44) }
     {
         if pick == 0 {
             return Octets::from_slice(alloc, self.area(area));
@@ -214,6 +226,8 @@ impl Kept {
         ensures left { IfOk result (λ image. IsImage (disk_now self.now.held) (image_of image)) }
         ensures read { pick ≡ 0 → IfOk result (λ image. image_of image ≡ read_of (disk_now self.now.held)) }
         ensures synced { pick ≡ 1 → IfOk result (λ image. AreSynced (disk_now self.now.held) (image_of image)) }
+        ensures three { IfOk result (λ image. length image.areas.items ≡ 3) }
+        ensures short { IfOk result IsShort }
     {
         let first = self.left(alloc, 0, pick)?;
         let second = self.left(alloc, 1, pick)?;
@@ -251,6 +265,7 @@ impl Kept {
         requires bytes { length piece.now ≤ self.old.spare_bytes }
         requires some { 1 ≤ length (area_of (read_of (disk_now self.old.held)) area) }
         requires inside { at ≤ length (area_of (read_of (disk_now self.old.held)) area) }
+        requires short { at + length piece.now ≤ 2 ^ 44 }
         ensures valid { IsValid self.new.held }
         ensures written { self.new.held ≡ grown self.old.held (Wrote area at piece.now true) }
         ensures calls { self.old.spare_calls ≡ self.new.spare_calls + 1 }
@@ -356,7 +371,7 @@ impl Kept {
     }
 
     /// Changes a byte of an adopted file, and tells whether it did.
-    pub fn spoil(&mut self, number: u64, at: u64, byte: u8) -> bool
+    pub fn spoil(&mut self, alloc: Global, number: u64, at: u64, byte: u8) -> bool
         ensures valid { IsValid self.new.held }
         ensures done { IsTrue result → Spoils number at byte (disk_now self.old.held) (disk_now self.new.held) }
         ensures same { IsFalse result → self.new.held ≡ self.old.held }
@@ -365,6 +380,6 @@ impl Kept {
         ensures bytes { self.new.spare_bytes ≡ self.old.spare_bytes }
     {
         let calls = self.calls.len() as u64;
-        change_file(&mut self.files, number, calls, at, byte)
+        change_file(alloc, &mut self.files, number, calls, at, byte)
     }
 }

@@ -1,5 +1,7 @@
-ghost use Rattle.std.specs.Prelude.{◌≡◌, ◌++◌, ℕ, List, IfOk, OnOk};
+ghost use Rattle.std.specs.Prelude.{◌≡◌, ◌++◌, ℕ, List, true, IfOk, OnOk};
+ghost use Rattle.std.specs.List.{list_all};
 ghost use Rattle.dev_memory.specs.Disk.{entries_at};
+ghost use Rattle.dev_memory.specs.Images.{is_short_file};
 
 use crate::call::File;
 use crate::kept::stands;
@@ -9,7 +11,8 @@ use std::alloc::Global;
 
 // A file as an image has it.
 fn entry_of(alloc: Global, file: &File) -> Result<(u64, Octets), Memory>
-    ensures { IfOk result (λ entry. entry ≡ (file.now.number, file.now.bytes)) }
+    ensures entry { IfOk result (λ entry. entry ≡ (file.now.number, file.now.bytes)) }
+    ensures short { IfOk result (λ entry. is_short_file entry ≡ true) }
 {
     let bytes = Octets::from_slice(alloc, file.bytes.as_slice())?;
     Ok((file.number, bytes))
@@ -17,7 +20,8 @@ fn entry_of(alloc: Global, file: &File) -> Result<(u64, Octets), Memory>
 
 // The files that stood adopted after so many calls.
 fn standing(alloc: Global, files: &[File], calls: u64) -> Result<Vec<(u64, Octets)>, Memory>
-    ensures { IfOk result (λ left. left.items ≡ entries_at calls files.now) }
+    ensures stand { IfOk result (λ left. left.items ≡ entries_at calls files.now) }
+    ensures short { IfOk result (λ left. list_all is_short_file left.items ≡ true) }
 {
     let mut left = Vec::new(alloc);
     for i in 0..files.len() {
@@ -36,7 +40,9 @@ fn add_others(
     files: &[File],
     calls: u64,
 ) -> Result<(), Memory>
-    ensures { OnOk result ((others : List (ℕ × List ℕ)) × (left.new.items ≡ left.old.items ++ others)) }
+    requires { list_all is_short_file left.old.items ≡ true }
+    ensures behind { OnOk result ((others : List (ℕ × List ℕ)) × (left.new.items ≡ left.old.items ++ others)) }
+    ensures short { OnOk result (list_all is_short_file left.new.items ≡ true) }
 {
     for i in 0..files.len() {
         let file = &files[i];
@@ -56,6 +62,7 @@ pub fn files_left(
 ) -> Result<Vec<(u64, Octets)>, Memory>
     ensures read { pick ≡ 0 → IfOk result (λ left. left.items ≡ entries_at calls files.now) }
     ensures kept { IfOk result (λ left. (others : List (ℕ × List ℕ)) × (left.items ≡ entries_at calls files.now ++ others)) }
+    ensures short { IfOk result (λ left. list_all is_short_file left.items ≡ true) }
 {
     let mut left = standing(alloc, files, calls)?;
     if pick % 2 == 1 {

@@ -23,6 +23,3 @@ pub use reader::MemReader;
 pub use shared::SharedBytes;
 pub use sink::MemSink;
 pub use store::MemStore;
-
-#[cfg(test)]
-mod tests;

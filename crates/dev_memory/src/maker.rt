@@ -1,5 +1,6 @@
 ghost use Rattle.std.specs.Prelude.{◌≡◌, ◌++◌, ◌^◌, ◌≤◌, [], ℕ, List, Some, IfOk, IsTrue, length};
-ghost use Rattle.dev_memory.specs.Reader.{IsNew};
+ghost use Rattle.std.specs.Arc.{arc_value};
+ghost use Rattle.dev_memory.specs.Reader.{IsNewOver, fails_of};
 ghost use Rattle.dev_traits.specs.Maker.{MakerView};
 
 use crate::faults::{Listed, strikes};
@@ -15,10 +16,10 @@ const MOST: usize = 1 << 44;
 pub struct MemSealed {
     pub(crate) file: SharedBytes,
     pub(crate) reader: MemReader,
-    ghost is_new: { IsNew file reader },
+    ghost is_new: { IsNewOver file reader },
 }
 
-/// A maker of files in memory, which fails at the listed calls.
+/// A maker of files in memory, which fails at the listed calls, counted from 1.
 #[derive(Drop)]
 pub struct MemMaker {
     alloc: Global,
@@ -32,12 +33,11 @@ pub struct MemMaker {
 }
 
 impl MemMaker {
-    ghost use Rattle.std.specs.Arc.{arc_value};
     ghost use Rattle.dev_memory.specs.Maker.{faults_of, ListsFrom};
 
     pub(crate) fn new(alloc: Global, fails: Listed, reader_fails: Listed) -> MemMaker
         ensures faults { faults_of result ≡ 0 }
-        ensures listed { ListsFrom (arc_value fails).items result }
+        ensures listed { ListsFrom (arc_value fails).items (arc_value reader_fails).items result }
     {
         MemMaker {
             alloc,
@@ -53,7 +53,9 @@ impl MemMaker {
 
 // A sealed file with these bytes.
 fn sealed(alloc: Global, bytes: Vec<u8>, fails: &Listed) -> Result<MemSealed, Memory>
-    ensures { IfOk result (λ sealed. sealed.file ≡ bytes.items) }
+    requires { length bytes.items ≤ 2 ^ 44 }
+    ensures file { IfOk result (λ sealed. sealed.file ≡ bytes.items) }
+    ensures listed { IfOk result (λ sealed. fails_of sealed.reader ≡ (arc_value fails.now).items) }
 {
     let file = SharedBytes::new(alloc, bytes)?;
     let reader = MemReader::open(&file, fails)?;
@@ -61,10 +63,10 @@ fn sealed(alloc: Global, bytes: Vec<u8>, fails: &Listed) -> Result<MemSealed, Me
 }
 
 impl FileMaker for MemMaker {
-    ghost use Rattle.std.specs.Prelude.{◌+◌, ◌<◌, is_some, OnOk, IsErrOf};
+    ghost use Rattle.std.specs.Prelude.{◌+◌, ◌<◌, is_some, OnOk, OnErr, IsErrOf};
     ghost use Rattle.std.specs.Option.{option_map};
     ghost use Rattle.dev_traits.specs.Causes.{HasDevCause};
-    ghost use Rattle.dev_memory.specs.Maker.{maker_view, made_len, FailsOnly};
+    ghost use Rattle.dev_memory.specs.Maker.{maker_view, made_len, reader_fails_of, sealed_fails_of, FailsOnly, SameFile, HasNoFile};
 
     type Sealed = MemSealed;
 
@@ -83,6 +85,7 @@ impl FileMaker for MemMaker {
         ensures never_absent { ¬ IsErrOf result DevError.Absent }
         ensures cause { HasDevCause (maker_view self.old).faults (maker_view self.new).faults result }
         ensures fails { FailsOnly ⊥ self.old self.new result }
+        ensures kept { OnErr result (SameFile self.old self.new) }
     {
         if strikes(&self.fails, None, &mut self.count, &mut self.faults) {
             return Err(DevError::Failed);
@@ -101,6 +104,7 @@ impl FileMaker for MemMaker {
         ensures never_absent { ¬ IsErrOf result DevError.Absent }
         ensures cause { HasDevCause (maker_view self.old).faults (maker_view self.new).faults result }
         ensures fails { FailsOnly (2 ^ 44 < made_len self.old + length piece.now) self.old self.new result }
+        ensures kept { OnErr result (SameFile self.old self.new) }
     {
         if strikes(&self.fails, None, &mut self.count, &mut self.faults) {
             return Err(DevError::Failed);
@@ -122,6 +126,10 @@ impl FileMaker for MemMaker {
         ensures never_absent { ¬ IsErrOf result DevError.Absent }
         ensures cause { HasDevCause (maker_view self.old).faults (maker_view self.new).faults result }
         ensures fails { FailsOnly ⊥ self.old self.new result }
+        ensures listed { IfOk result (λ sealed. sealed_fails_of sealed ≡ reader_fails_of self.old) }
+        ensures kept { IsErrOf result DevError.Failed → SameFile self.old self.new }
+        ensures dropped { IsErrOf result DevError.Memory → HasNoFile self.new }
+        ensures ended { OnOk result (HasNoFile self.new) }
     {
         if strikes(&self.fails, None, &mut self.count, &mut self.faults) {
             return Err(DevError::Failed);

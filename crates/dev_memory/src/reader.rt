@@ -5,12 +5,9 @@ ghost use Rattle.dev_memory.specs.Told.{size_told};
 use crate::SharedBytes;
 use crate::faults::{Listed, strikes};
 use dev_traits::{Failed, Memory, SealedReader};
-use std::alloc::AllocError;
 use std::sync::Arc;
 
-const MOST: u64 = 1 << 44;
-
-/// A reader of a file in memory, which fails at the listed reads.
+/// A reader of a file in memory, which fails at the listed reads, counted from 1.
 #[derive(Drop)]
 pub struct MemReader {
     file: SharedBytes,
@@ -22,11 +19,13 @@ pub struct MemReader {
 }
 
 impl MemReader {
-    ghost use Rattle.dev_memory.specs.Reader.{IsNew};
+    ghost use Rattle.std.specs.Arc.{arc_value};
+    ghost use Rattle.dev_memory.specs.Reader.{IsNewOver, ListsFrom};
 
     pub(crate) fn new(file: SharedBytes, fails: Listed) -> MemReader
         requires { length file ≤ 2 ^ 44 }
-        ensures { IsNew file result }
+        ensures new { IsNewOver file result }
+        ensures listed { ListsFrom (arc_value fails).items result }
     {
         MemReader {
             file,
@@ -39,11 +38,9 @@ impl MemReader {
 
     /// A reader of these bytes.
     pub(crate) fn open(file: &SharedBytes, fails: &Listed) -> Result<MemReader, Memory>
-        ensures { IfOk result (λ reader. IsNew file.now reader) }
+        ensures new { IfOk result (λ reader. IsNewOver file.now reader) }
+        ensures listed { IfOk result (ListsFrom (arc_value fails.now).items) }
     {
-        if file.as_slice().len() as u64 > MOST {
-            return Err(AllocError);
-        }
         let shared = file.another()?;
         let fails = Arc::try_clone(fails)?;
         Ok(MemReader::new(shared, fails))
@@ -51,10 +48,10 @@ impl MemReader {
 }
 
 impl SealedReader for MemReader {
-    ghost use Rattle.std.specs.Prelude.{◌-◌, min, take, drop, OnOk};
+    ghost use Rattle.std.specs.Prelude.{◌-◌, min, take, drop, OnOk, OnErr};
     ghost use Rattle.dev_traits.specs.Causes.{HasCause};
-    ghost use Rattle.dev_traits.specs.Reader.{SameFile};
-    ghost use Rattle.dev_memory.specs.Reader.{reader_view, FailsAsListed};
+    ghost use Rattle.dev_traits.specs.Reader.{SameFile, IsNew};
+    ghost use Rattle.dev_memory.specs.Reader.{reader_view, fails_of, ListsFrom, FailsAsListed, Uncounted};
 
     ghost view = { λ r. record { bytes = Some r.file; size = length r.file; faults = r.faults; reads = r.reads } };
 
@@ -88,7 +85,16 @@ impl SealedReader for MemReader {
         Ok(())
     }
 
-    fn another(&mut self) -> Result<Self, Memory> {
+    fn another(&mut self) -> Result<Self, Memory>
+        ensures new { IfOk result (λ other. IsNew (reader_view other)) }
+        ensures file { IfOk result (λ other. SameFile (reader_view self.old) (reader_view other)) }
+        ensures same { SameFile (reader_view self.old) (reader_view self.new) }
+        ensures counted { OnOk result ((reader_view self.new).reads ≡ min ((reader_view self.old).reads + 1) (2 ^ 64 - 1)) }
+        ensures uncounted { OnErr result ((reader_view self.new).reads ≡ (reader_view self.old).reads) }
+        ensures faults { (reader_view self.new).faults ≡ (reader_view self.old).faults }
+        ensures listed { IfOk result (ListsFrom (fails_of self.old)) }
+        ensures as_listed { Uncounted self.old self.new }
+    {
         let file = self.file.another()?;
         let fails = Arc::try_clone(&self.fails)?;
         self.reads = self.reads.saturating_add(1);

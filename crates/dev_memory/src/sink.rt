@@ -60,6 +60,8 @@ impl Sink for MemSink {
         ensures bytes { Keeps self.old self.new piece.now result }
         ensures cause { PutCause (faults_of self.old) (faults_of self.new) result }
         ensures counted { puts_of self.new ≡ next_put self.old }
+        ensures fails { fails_of self.new ≡ fails_of self.old }
+        ensures most { most_of self.new ≡ most_of self.old }
         ensures listed { Contains (fails_of self.old) (next_put self.old) → result ≡ Put.Failed }
     {
         self.puts = self.puts.saturating_add(1);

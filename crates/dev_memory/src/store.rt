@@ -1,12 +1,17 @@
-ghost use Rattle.std.specs.Prelude.{◌≡◌, ◌^◌, ◌+◌, ◌≤◌, ◌<◌, None, length, map, take, drop, IfOk, IsErrOf, OnErr, IsTrue, IsFalse, refl};
+ghost use Rattle.std.specs.Prelude.{◌≡◌, ◌^◌, ◌+◌, ◌≤◌, ◌<◌, None, true, length, map, take, drop, IfOk, IsErrOf, OnErr, IsTrue, IsFalse, refl};
 ghost use Rattle.std.specs.Ordering.{nat_cmp};
 ghost use Rattle.std.specs.FinMap.Entries.{find};
-ghost use Rattle.dev_traits.specs.Causes.{Rose};
+ghost use Rattle.std.specs.List.{list_all};
+ghost use Rattle.dev_traits.specs.Causes.{Counts};
 ghost use Rattle.dev_memory.specs.Laws.{counts, only, read_is_image, files_kept, empty_kept, three_read};
 ghost use Rattle.dev_memory.specs.Disk.{disk_now, read_of, entries_at};
+ghost use Rattle.dev_memory.specs.Images.{is_short_file};
 ghost use Rattle.dev_memory.specs.Kept.{IsValid, first_file};
-ghost use Rattle.dev_memory.specs.Reader.{IsNew, Opens};
+ghost use Rattle.dev_memory.specs.Reader as made;
+ghost use Rattle.dev_memory.specs.Reader.{Opens};
+ghost use Rattle.std.specs.Arc.{arc_value};
 
+use crate::area::is_within;
 use crate::call::{File, NEVER};
 use crate::faults::{Listed, strikes};
 use crate::kept::Kept;
@@ -16,9 +21,7 @@ use pk_values::Octets;
 use std::alloc::{AllocError, Global};
 use std::sync::Arc;
 
-const MOST: u64 = 1 << 44;
-
-/// A store in memory. It fails at the listed calls, and where an area would be longer than 2^44 bytes. It keeps a record of each call that
+/// A store in memory. It fails at the listed calls, and where a write would make an area longer than 2^44 bytes. It keeps a record of each call that
 /// wrote, so that what a crash at any moment might have left can be said.
 #[derive(Drop)]
 pub struct MemStore {
@@ -36,24 +39,16 @@ pub struct MemStore {
 
 // A fault, counted.
 fn fail(faults: &mut u64) -> Failed
-    ensures rose { Rose faults.old faults.new }
-    ensures later { faults.old ≤ faults.new }
+    ensures { Counts 1 faults.old faults.new }
 {
     *faults = faults.saturating_add(1);
     Failed
 }
 
-// Whether an area that a piece is written to is short enough then.
-fn is_within(at: u64, piece: &[u8]) -> bool
-    ensures within { IsTrue result → at + length piece.now ≤ 2 ^ 44 }
-    ensures past { IsFalse result → 2 ^ 44 < at + length piece.now }
-{
-    at <= MOST && piece.len() as u64 <= MOST - at
-}
-
 // A reader of the file of a number.
 fn open_number(kept: &Kept, number: u64, fails: &Listed) -> Result<MemReader, DevError>
     ensures found { IfOk result (λ reader. Opens kept.now.held number reader) }
+    ensures listed { IfOk result (made.ListsFrom (arc_value fails.now).items) }
     ensures absent { IsErrOf result DevError.Absent → find nat_cmp number (entries_at (length kept.now.held.deeds) kept.now.held.files) ≡ None }
     ensures never_failed { ¬ IsErrOf result DevError.Failed }
 {
@@ -79,15 +74,15 @@ impl Store for MemStore {
     ghost use Rattle.std.specs.Option.{option_map};
     ghost use Rattle.dev_traits.specs.Causes.{HasCause, HasDevCause};
     ghost use Rattle.dev_traits.specs.Image.{area_of, file, overwritten, with_area, with_file, with_files_of, Same, TornIn, Blanked, Forgets, ForgetsSome};
-    ghost use Rattle.dev_traits.specs.Reader.{Fresh};
+    ghost use Rattle.std.specs.List.Sorted.{IsStrictlyIncreasing};
+    ghost use Rattle.dev_traits.specs.Reader.{IsNew};
     ghost use Rattle.dev_traits.specs.View.{Told, EachImage, Leaves, Calm, Spends, ReadsElsewhere};
     ghost use Rattle.dev_memory.specs.Disk as disk;
     ghost use Rattle.dev_memory.specs.Disk.{Wrote, Synced};
     ghost use Rattle.dev_memory.specs.Kept.{grown, Adopts, forgotten};
-    ghost use Rattle.std.specs.Arc.{arc_value};
-    ghost use Rattle.dev_memory.specs.Maker.{maker_view, ListsFrom};
+    ghost use Rattle.dev_memory.specs.Maker.{maker_view, sealed_fails_of, ListsFrom};
     ghost use Rattle.dev_memory.specs.Reader.{reader_view};
-    ghost use Rattle.dev_memory.specs.Store.{view_of, held_of, disk_of, Counted, Uncounted, IsNextStruck, FailsOnly};
+    ghost use Rattle.dev_memory.specs.Store.{view_of, held_of, disk_of, maker_fails_of, reader_fails_of, Counted, Uncounted, IsNextStruck, FailsOnly};
 
     type Maker = MemMaker;
 
@@ -132,16 +127,12 @@ impl Store for MemStore {
         ensures calm { Calm (view_of self.old) (view_of self.new) }
         ensures cause { HasCause (view_of self.old).faults (view_of self.new).faults result }
         ensures kept { held_of self.new ≡ held_of self.old }
-        ensures fails { FailsOnly (2 ^ 44 < length (area_of (read_of (disk_of self.old)) area)) self.old self.new result }
+        ensures fails { FailsOnly ⊥ self.old self.new result }
     {
         if strikes(&self.fails, self.stop, &mut self.count, &mut self.faults) {
             return Err(Failed);
         }
-        let length = self.kept.area(area).len() as u64;
-        if length > MOST {
-            return Err(fail(&mut self.faults));
-        }
-        Ok(length)
+        Ok(self.kept.area(area).len() as u64)
     }
 
     fn read(&mut self, area: u32, at: u64, into: &mut [u8]) -> Result<(), Failed>
@@ -177,15 +168,18 @@ impl Store for MemStore {
         ensures fails { FailsOnly (2 ^ 44 < at + length piece.now) self.old self.new result }
     {
         let struck = strikes(&self.fails, self.stop, &mut self.count, &mut self.faults);
-        if !is_within(at, piece) {
-            return Err(fail(&mut self.faults));
+        match (struck, is_within(at, piece)) {
+            (false, true) => {
+                self.kept.write(area, at, piece);
+                Ok(())
+            }
+            (true, true) => {
+                self.kept.fail_write(area, at, piece);
+                Err(Failed)
+            }
+            (true, false) => Err(Failed),
+            (false, false) => Err(fail(&mut self.faults)),
         }
-        if struck {
-            self.kept.fail_write(area, at, piece);
-            return Err(Failed);
-        }
-        self.kept.write(area, at, piece);
-        Ok(())
     }
 
     fn sync(&mut self, area: u32) -> Result<(), Failed>
@@ -229,8 +223,9 @@ impl Store for MemStore {
     }
 
     fn maker(&mut self) -> Result<MemMaker, Memory>
-        ensures maker { IfOk result (λ maker. ((maker_view maker).faults ≡ 0) × (IsSome (view_of self.old).seen → IsSome (maker_view maker).made)) }
-        ensures listed { IfOk result (ListsFrom (arc_value self.old.maker_fails).items) }
+        ensures new { IfOk result (λ maker. (maker_view maker).faults ≡ 0) }
+        ensures tells { IfOk result (λ maker. IsSome (view_of self.old).seen → IsSome (maker_view maker).made) }
+        ensures listed { IfOk result (ListsFrom (maker_fails_of self.old) (reader_fails_of self.old)) }
         ensures calm { Calm (view_of self.old) (view_of self.new) }
         ensures faults { (view_of self.new).faults ≡ (view_of self.old).faults }
         ensures kept { held_of self.new ≡ held_of self.old }
@@ -247,7 +242,9 @@ impl Store for MemStore {
         ensures adopted { OnOk result ((bytes : List ℕ) → Some sealed.file ≡ Some bytes → (view_of self.new).seen ≡ option_map (with_file number bytes) (view_of self.old).seen) }
         ensures not_adopted { OnErr result ((view_of self.new).seen ≡ (view_of self.old).seen) }
         ensures durable { OnOk result ((bytes : List ℕ) → Some sealed.file ≡ Some bytes → EachImage (view_of self.new) (λ left. file left number ≡ Some bytes)) }
-        ensures reader { IfOk result (λ reader. Fresh (Some sealed.file) (reader_view reader)) }
+        ensures new { IfOk result (λ reader. IsNew (reader_view reader)) }
+        ensures bytes { IfOk result (λ reader. (reader_view reader).bytes ≡ Some sealed.file) }
+        ensures listed { IfOk result (made.ListsFrom (sealed_fails_of sealed)) }
         ensures spends { Spends 1 0 (view_of self.old) (view_of self.new) }
         ensures crash { Leaves Same (view_of self.old) (view_of self.new) }
         ensures cause { HasCause (view_of self.old).faults (view_of self.new).faults result }
@@ -264,7 +261,9 @@ impl Store for MemStore {
     }
 
     fn reader(&mut self, number: u64) -> Result<MemReader, DevError>
-        ensures reader { IfOk result (λ reader. Told (view_of self.old) (λ image. Fresh (file image number) (reader_view reader))) }
+        ensures new { IfOk result (λ reader. IsNew (reader_view reader)) }
+        ensures bytes { IfOk result (λ reader. Told (view_of self.old) (λ image. (reader_view reader).bytes ≡ file image number)) }
+        ensures listed { IfOk result (made.ListsFrom (reader_fails_of self.old)) }
         ensures there { IfOk result (λ _. Told (view_of self.old) (λ image. IsSome (file image number))) }
         ensures absent { Told (view_of self.old) (λ image. IsErrOf result DevError.Absent → file image number ≡ None) }
         ensures calm { Calm (view_of self.old) (view_of self.new) }
@@ -282,6 +281,7 @@ impl Store for MemStore {
 
     fn forget_others(&mut self, keep: &[u64]) -> Result<(), Failed>
         requires calls { 1 ≤ (view_of self.old).spare_calls }
+        requires rising { IsStrictlyIncreasing keep.now }
         ensures forgot { OnOk result ((view_of self.new).seen ≡ option_map (with_files_of keep.now) (view_of self.old).seen) }
         ensures kept { Told (view_of self.old) (λ before. Told (view_of self.new) (ForgetsSome keep.now before)) }
         ensures spends { Spends 1 0 (view_of self.old) (view_of self.new) }
@@ -300,8 +300,7 @@ impl Store for MemStore {
 
     fn give_back(&mut self, maker: MemMaker)
         ensures calm { Calm (view_of self.old) (view_of self.new) }
-        ensures none { (maker_view maker).faults ≡ 0 → (view_of self.new).faults ≡ (view_of self.old).faults }
-        ensures counted { min ((view_of self.old).faults + (maker_view maker).faults) (2 ^ 64 - 1) ≤ (view_of self.new).faults }
+        ensures counts { Counts (maker_view maker).faults (view_of self.old).faults (view_of self.new).faults }
         ensures kept { held_of self.new ≡ held_of self.old }
         ensures uncounted { Uncounted self.old self.new }
     {
@@ -310,8 +309,7 @@ impl Store for MemStore {
 
     fn give_back_reader(&mut self, reader: MemReader)
         ensures calm { Calm (view_of self.old) (view_of self.new) }
-        ensures none { (reader_view reader).faults ≡ 0 → (view_of self.new).faults ≡ (view_of self.old).faults }
-        ensures counted { min ((view_of self.old).faults + (reader_view reader).faults) (2 ^ 64 - 1) ≤ (view_of self.new).faults }
+        ensures counts { Counts (reader_view reader).faults (view_of self.old).faults (view_of self.new).faults }
         ensures kept { held_of self.new ≡ held_of self.old }
         ensures uncounted { Uncounted self.old self.new }
     {
@@ -321,6 +319,7 @@ impl Store for MemStore {
 
 // The files of an image, adopted before any call.
 fn files_of(alloc: Global, entries: Vec<(u64, Octets)>) -> Result<Vec<File>, Memory>
+    requires { list_all is_short_file entries.items ≡ true }
     ensures { IfOk result (λ files. files.items ≡ map first_file entries.items) }
 {
     let mut files = Vec::new(alloc);
@@ -337,14 +336,13 @@ fn files_of(alloc: Global, entries: Vec<(u64, Octets)>) -> Result<Vec<File>, Mem
 }
 
 impl MemStore {
-    ghost use Rattle.std.specs.List.{list_all};
     ghost use Rattle.dev_memory.specs.Disk.{settled_by};
     ghost use Rattle.dev_memory.specs.Kept.{at_first};
     ghost use Rattle.std.specs.Prelude.{Some};
     ghost use Rattle.dev_memory.specs.Crash.{AreSynced};
-    ghost use Rattle.dev_memory.specs.Images.{image_of};
+    ghost use Rattle.dev_memory.specs.Images.{image_of, IsShort};
     ghost use Rattle.dev_memory.specs.Spoils.{Spoils};
-    ghost use Rattle.dev_memory.specs.Store.{Begins, Lists, empty_image, held_of, disk_of, view_of, SameCounts};
+    ghost use Rattle.dev_memory.specs.Store.{Begins, Lists, empty_image, held_of, disk_of, view_of, SameCounts, Uncounted};
 
     /// A store of three empty areas, without a file.
     pub fn new(alloc: Global, faults: Faults) -> Result<MemStore, Memory>
@@ -369,28 +367,32 @@ impl MemStore {
         ensures left { IfOk result (λ image. (view_of self.now).may_leave (image_of image)) }
         ensures read { pick ≡ 0 → IfOk result (λ image. (view_of self.now).seen ≡ Some (image_of image)) }
         ensures synced { pick ≡ 1 → IfOk result (λ image. AreSynced (disk_of self.now) (image_of image)) }
+        ensures three { IfOk result (λ image. length image.areas.items ≡ 3) }
+        ensures short { IfOk result IsShort }
     {
         self.kept.image(alloc, pick)
     }
 
     /// Changes the byte at a place of an adopted file, and answers true: the store isn't honest from then on, reads the changed file, and leaves
-    /// it in crashes, too. It answers false, and changes nothing, where there is no such file or place, and where a reader of the file,
-    /// or another owner of its bytes, is still in hand: give it back first.
+    /// it in crashes, too. A reader in hand still reads the bytes from before. It answers false, and changes nothing, where there is no such file
+    /// or place, and where memory for a copy of the file is wanting.
     pub fn spoil(&mut self, number: u64, at: u64, byte: u8) -> bool
         ensures spoilt { IsTrue result → Spoils number at byte (disk_of self.old) (disk_of self.new) }
         ensures dishonest { IsTrue result → IsFalse (view_of self.new).is_honest }
         ensures same { IsFalse result → held_of self.new ≡ held_of self.old }
         ensures as_honest { IsFalse result → (view_of self.new).is_honest ≡ (view_of self.old).is_honest }
         ensures counts { SameCounts (view_of self.old) (view_of self.new) }
+        ensures uncounted { Uncounted self.old self.new }
     {
-        let spoilt = self.kept.spoil(number, at, byte);
+        let spoilt = self.kept.spoil(self.alloc, number, at, byte);
         self.is_honest = self.is_honest && !spoilt;
         spoilt
     }
 
-    /// A store that a crash left as this image. Of each number the first file counts.
+    /// A store that a crash left as this image: three areas, and none of them and no file above 2^44 bytes. Of each number the first file counts.
     pub fn of_image(alloc: Global, image: Image, faults: Faults) -> Result<MemStore, Memory>
-        requires { length image.areas.items ≡ 3 }
+        requires three { length image.areas.items ≡ 3 }
+        requires short { IsShort image }
         ensures begins { IfOk result (λ store. Begins (image_of image) (view_of store)) }
         ensures listed { IfOk result (λ store. Lists faults store) }
     {

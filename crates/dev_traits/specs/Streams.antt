@@ -3,7 +3,7 @@ use Rattle.std.specs.Prelude.{◌≡◌, ℕ, ◌<◌, ◌≤◌, List, [], ◌+
 use Rattle.std.specs.Ordering.{nat_cmp}
 use Rattle.std.specs.Cmp.Lexicographic.{slice_cmp}
 use Rattle.std.specs.FinMap.{FinMap, get}
-use Rattle.dev_traits.specs.Causes.{Rose}
+use Rattle.dev_traits.specs.Causes.{Counts}
 use Rattle.dev_traits.specs.declared.streams.Taken.{Taken}
 use Rattle.dev_traits.specs.declared.streams.Taken.TheVariants as taken
 use Rattle.dev_traits.specs.declared.streams.Put.{Put}
@@ -27,11 +27,11 @@ Takes (Some xs) now into (taken.Bytes n) = (n ≤ length xs) × (take n into ≡
 Takes (Some xs) now into taken.End = (xs ≡ []) × (now ≡ Some [])
 Takes (Some xs) now into taken.Failed = now ≡ Some xs
 
--- a read fails only where the count of faults rises
+-- a read that fails counts one fault, and another none
 abbrev pub TakeCause : ℕ → ℕ → Taken → Type 0
-TakeCause before now taken.Failed = (before ≤ now) × Rose before now
-TakeCause before now taken.End = before ≤ now
-TakeCause before now (taken.Bytes n) = before ≤ now
+TakeCause before now taken.Failed = Counts 1 before now
+TakeCause before now taken.End = now ≡ before
+TakeCause before now (taken.Bytes n) = now ≡ before
 
 abbrev pub PutWithin : ℕ → Put → Type 0
 PutWithin size (put_.Took n) = (0 < n) × (n ≤ size)
@@ -43,9 +43,10 @@ Puts None now piece answer = now ≡ None
 Puts (Some xs) now piece (put_.Took n) = now ≡ Some (xs ++ take n piece)
 Puts (Some xs) now piece put_.Failed = now ≡ Some xs
 
+-- a write that fails counts one fault, and another none
 abbrev pub PutCause : ℕ → ℕ → Put → Type 0
-PutCause before now put_.Failed = (before ≤ now) × Rose before now
-PutCause before now (put_.Took n) = before ≤ now
+PutCause before now put_.Failed = Counts 1 before now
+PutCause before now (put_.Took n) = now ≡ before
 
 -- inputs that tell give a source of the bytes under the name, and answer that it is absent exactly where they have none; a new source has no fault
 abbrev pub Asks : {S : Type 0} → (S → Option (List ℕ)) → (S → ℕ) → Option Files → List ℕ → Asked S → Type 0
@@ -56,6 +57,9 @@ Asks left faults (Some files) name asked.Absent = get files name ≡ None
 Asks left faults files name asked.Failed = ⊤
 Asks left faults files name asked.Memory = ⊤
 
--- the count rises exactly where the source had a fault
-abbrev pub GivesBack : ℕ → ℕ → ℕ → Type 0
-GivesBack source before now = (before ≤ now) × (source ≡ 0 → now ≡ before) × (0 < source → Rose before now)
+-- an ask that fails counts one fault, and another none
+abbrev pub AskCause : {S : Type 0} → ℕ → ℕ → Asked S → Type 0
+AskCause before now asked.Failed = Counts 1 before now
+AskCause before now asked.Memory = now ≡ before
+AskCause before now asked.Absent = now ≡ before
+AskCause before now (asked.Got src) = now ≡ before

@@ -1,6 +1,6 @@
 ghost use Rattle.std.specs.Prelude.{◌≡◌, ◌<◌, ◌≤◌, ℕ, List, Option, length};
-ghost use Rattle.dev_traits.specs.Streams.{Files, Asks, Takes, TakeWithin, TakeCause, Puts, PutWithin, PutCause, GivesBack};
-ghost use Rattle.dev_traits.specs.Causes.{Rose};
+ghost use Rattle.dev_traits.specs.Streams.{Files, Asks, Takes, TakeWithin, TakeCause, AskCause, Puts, PutWithin, PutCause};
+ghost use Rattle.dev_traits.specs.Causes.{Counts};
 ghost use Rattle.dev_traits.specs.declared.streams.Taken.TheVariants as taken;
 ghost use Rattle.dev_traits.specs.declared.streams.Put.TheVariants as put_;
 ghost use Rattle.dev_traits.specs.declared.streams.Asked.TheVariants as asked;
@@ -10,24 +10,33 @@ use std::alloc::Global;
 /// What asking for an input by name gives.
 #[derive(Drop)]
 pub enum Asked<X> {
+    /// A source at the first byte of the input.
     Got(X),
+    /// There is no input of that name.
     Absent,
+    /// The inputs failed, and counted it.
     Failed,
+    /// Out of memory.
     Memory,
 }
 
 /// What a read gives.
 #[derive(Clone, Copy, Debug, PartialEq, Eq)]
 pub enum Taken {
+    /// So many bytes stand at the front of the buffer, at least one.
     Bytes(usize),
+    /// No byte is left.
     End,
+    /// The source failed, and counted it. No byte was taken.
     Failed,
 }
 
 /// What a write gives.
 #[derive(Clone, Copy, Debug, PartialEq, Eq)]
 pub enum Put {
+    /// So many bytes from the front of the piece were taken, at least one.
     Took(usize),
+    /// The sink failed, and counted it. No byte was taken.
     Failed,
 }
 
@@ -39,6 +48,7 @@ pub trait Source {
     /// How many reads failed.
     ghost faults: { Self → ℕ };
 
+    /// Reads some of the bytes that are left into the front of a buffer that isn't empty.
     fn take(&mut self, into: &mut [u8]) -> Taken
         requires { 0 < length into.old }
         ensures within { TakeWithin (length into.old) result }
@@ -56,16 +66,16 @@ pub trait Inputs {
     /// How many asks and reads failed.
     ghost faults: { Self → ℕ };
 
+    /// A source of the input under a name.
     fn ask(&mut self, alloc: Global, name: &str) -> Asked<Self::Src>
         ensures same { files self.new ≡ files self.old }
-        ensures counts { faults self.old ≤ faults self.new }
         ensures found { Asks Self.Src.left Self.Src.faults (files self.old) name.now result }
-        ensures cause { result ≡ asked.Failed → Rose (faults self.old) (faults self.new) };
+        ensures cause { AskCause (faults self.old) (faults self.new) result };
 
-    /// Counts the faults of a source that is done with.
+    /// Takes back a source that is done with, and counts its faults.
     fn give_back(&mut self, src: Self::Src)
         ensures same { files self.new ≡ files self.old }
-        ensures counts { GivesBack (Self.Src.faults src) (faults self.old) (faults self.new) };
+        ensures counts { Counts (Self.Src.faults src) (faults self.old) (faults self.new) };
 }
 
 /// A stream of bytes that is written.
@@ -76,6 +86,7 @@ pub trait Sink {
     /// How many writes failed.
     ghost faults: { Self → ℕ };
 
+    /// Writes some bytes from the front of a piece that isn't empty.
     fn put(&mut self, piece: &[u8]) -> Put
         requires { 0 < length piece.now }
         ensures within { PutWithin (length piece.now) result }

@@ -2,7 +2,7 @@
 use Rattle.std.specs.Prelude.{◌≡◌, ◌≢◌, ◌⊎◌, ℕ, ◌+◌, ◌^◌, ◌<◌, ◌≤◌, List, [], ◌∷◌, ◌++◌, length, drop, IsTrue}
 use Rattle.std.specs.Int.{w64, to_be_bytes}
 use Rattle.dev_traits.specs.Image.{Image, area_of, Elsewhere}
-use Rattle.dev_traits.specs.View.{View, EachImage}
+use Rattle.dev_traits.specs.View.{View, Told, EachImage}
 
 -- behind a gate: the length as a u64, the highest byte first, and the body
 abbrev pub frame : List ℕ → List ℕ
@@ -47,6 +47,14 @@ pub record EndsAt (bodies : List (List ℕ)) (end : ℕ) (bytes : List ℕ) : Ty
 pub record IsSettled (a : ℕ) (bodies : List (List ℕ)) (end : ℕ) (view : View) : Type 0 where
   pub honest : IsTrue view.is_honest
   pub each : EachImage view (λ left. EndsAt bodies end (area_of left a))
+
+-- where the store is honest, the area holds some bodies, settled up to a closed gate at this place
+abbrev pub IsReady : ℕ → ℕ → View → Type 0
+IsReady a end view = IsTrue view.is_honest → (bodies : List (List ℕ)) × IsSettled a bodies end view
+
+-- where it tells, a crash leaves of the area what is read, as after a sync
+abbrev pub IsSynced : ℕ → View → Type 0
+IsSynced a view = Told view (λ image. EachImage view (λ left. area_of left a ≡ area_of image a))
 
 -- the log of one area has the bodies from before, or one more; the rest of the image is as it was
 pub record Appends (a : ℕ) (bodies : List (List ℕ)) (body : List ℕ) (old new : Image) : Type 0 where

@@ -1,9 +1,9 @@
 ghost use Rattle.std.specs.Prelude.{◌≡◌, ◌+◌, ◌-◌, ◌^◌, ◌<◌, ◌≤◌, length, take, drop, IfOk, IsErrOf};
-ghost use Rattle.dev_traits.specs.Causes.{Rose};
 ghost use Rattle.dev_traits.specs.Image.{area_of};
 ghost use Rattle.dev_traits.specs.View.{Told, Calm};
+ghost use Rattle.gated_log.specs.Faults.{HasLogCause};
 ghost use Rattle.gated_log.specs.Log.{IsLog, IsNoLog};
-ghost use Rattle.gated_log.specs.declared.fault.LogFault.TheVariants.{StoreFault, NotALog};
+ghost use Rattle.gated_log.specs.declared.fault.LogFault.TheVariants.{NotALog};
 
 use crate::LogFault;
 use crate::reading::next;
@@ -25,8 +25,7 @@ fn body<S: Store>(
     requires inside { Told (S.view store.old) (λ image. gate ≤ length (area_of image area)) }
     ensures body { IfOk result (λ body. Told (S.view store.old) (λ image. body ≡ take (gate - at - 9) (drop (at + 9) (area_of image area)))) }
     ensures calm { Calm (S.view store.old) (S.view store.new) }
-    ensures later { (S.view store.old).faults ≤ (S.view store.new).faults }
-    ensures fault { IsErrOf result StoreFault → Rose (S.view store.old).faults (S.view store.new).faults }
+    ensures cause { HasLogCause (S.view store.old).faults (S.view store.new).faults result }
     ensures a_log { IsErrOf result NotALog → ⊥ }
 {
     let mut bytes = vec![in alloc; 0u8; (gate - at - 9) as usize]?;
@@ -37,14 +36,13 @@ fn body<S: Store>(
 /// The bodies of an area's log, in their order. It writes nothing.
 ///
 /// # Errors
-/// `NotALog`, `StoreFault`, and `Memory` for the bodies.
+/// `NotALog` where the area isn't of the log's grammar, `StoreFault`, and `Memory` for the bodies.
 pub fn bodies<S: Store>(alloc: Global, store: &mut S, area: u32) -> Result<Vec<Octets>, LogFault>
     requires { area < 3 }
     ensures bodies { IfOk result (λ bodies. Told (S.view store.old) (λ image. IsLog bodies.items (area_of image area))) }
     ensures not_a_log { IsErrOf result NotALog → Told (S.view store.old) (λ image. IsNoLog (area_of image area)) }
     ensures calm { Calm (S.view store.old) (S.view store.new) }
-    ensures later { (S.view store.old).faults ≤ (S.view store.new).faults }
-    ensures fault { IsErrOf result StoreFault → Rose (S.view store.old).faults (S.view store.new).faults }
+    ensures cause { HasLogCause (S.view store.old).faults (S.view store.new).faults result }
 {
     let mut bodies = Vec::new(alloc);
     let end = store.length(area)?;

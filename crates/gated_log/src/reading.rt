@@ -1,9 +1,10 @@
 ghost use Rattle.std.specs.Prelude.{◌≡◌, ◌+◌, ◌^◌, ◌<◌, ◌≤◌, ◌∷◌, [], ℕ, List, length, drop, OnOk, IfOk, IfErr, IfSome, IsErrOf, IsTrue, MatchOption};
 ghost use Rattle.std.specs.Int.{w64, to_be_bytes};
-ghost use Rattle.dev_traits.specs.Causes.{HasCause, Rose};
+ghost use Rattle.dev_traits.specs.Causes.{HasCause};
 ghost use Rattle.dev_traits.specs.Image.{area_of, Blanked};
 ghost use Rattle.dev_traits.specs.View.{Told, EachImage, Leaves, Calm, Spends, ReadsElsewhere};
-ghost use Rattle.gated_log.specs.Log.{IsLog, IsNoLog, EndsAt, HasNone, IsBlock, IsScanned, IsSettled};
+ghost use Rattle.gated_log.specs.Faults.{HasLogCause};
+ghost use Rattle.gated_log.specs.Log.{IsLog, IsNoLog, EndsAt, HasNone, IsBlock, IsScanned, IsSettled, IsReady, IsSynced};
 ghost use Rattle.gated_log.specs.declared.fault.LogFault.TheVariants.{StoreFault, NotALog};
 
 use crate::log::OPEN;
@@ -53,8 +54,7 @@ pub(crate) fn next<S: Store>(
     ensures inside { IfOk result (λ found. IfSome found (λ gate. (at + 9 < gate) × (gate < end))) }
     ensures not_a_log { IsErrOf result NotALog → Told (S.view store.old) (λ image. IsNoLog (drop at (area_of image area))) }
     ensures calm { Calm (S.view store.old) (S.view store.new) }
-    ensures later { (S.view store.old).faults ≤ (S.view store.new).faults }
-    ensures fault { IsErrOf result StoreFault → Rose (S.view store.old).faults (S.view store.new).faults }
+    ensures cause { HasLogCause (S.view store.old).faults (S.view store.new).faults result }
     ensures memory { IsErrOf result LogFault.Memory → ⊥ }
 {
     let mut gate = [0u8; 1];
@@ -84,8 +84,7 @@ fn closed_gate<S: Store>(store: &mut S, area: u32, end: u64) -> Result<u64, LogF
     ensures inside { IfOk result (λ gate. gate < end) }
     ensures not_a_log { IsErrOf result NotALog → Told (S.view store.old) (λ image. IsNoLog (area_of image area)) }
     ensures calm { Calm (S.view store.old) (S.view store.new) }
-    ensures later { (S.view store.old).faults ≤ (S.view store.new).faults }
-    ensures fault { IsErrOf result StoreFault → Rose (S.view store.old).faults (S.view store.new).faults }
+    ensures cause { HasLogCause (S.view store.old).faults (S.view store.new).faults result }
     ensures memory { IsErrOf result LogFault.Memory → ⊥ }
 {
     let mut at = 0;
@@ -98,10 +97,12 @@ fn closed_gate<S: Store>(store: &mut S, area: u32, end: u64) -> Result<u64, LogF
 }
 
 /// Finds the log of an area. An empty area is blanked first, for which the call itself takes the store's room.
-/// An area is a log, with its bodies in their order, or it is `NotALog`. It doesn't sync: where some image may have another gate open, sync the area first.
+/// An area is a log, with its bodies in their order, or it is `NotALog`. It doesn't sync: where some image may have another gate open, sync the area
+/// first, and the log that is found is ready for an append.
 ///
 /// # Errors
-/// `NotALog`, `StoreFault`, and `Memory` for the room of the blanking.
+/// `NotALog` where the area isn't of the log's grammar, `StoreFault`, and `Memory` for the room of the blanking. Nothing is written at `NotALog` and
+/// `Memory`; at `StoreFault` an empty area may be blank.
 pub fn find<S: Store>(store: &mut S, area: u32) -> Result<Log, LogFault>
     requires { area < 3 }
     ensures area { IfOk result (λ log. log.area ≡ area) }
@@ -116,12 +117,16 @@ pub fn find<S: Store>(store: &mut S, area: u32) -> Result<Log, LogFault>
     ensures begun { IsTrue (S.view store.old).is_honest → Told (S.view store.old) (λ image. area_of image area ≡ []
         → IfOk result (λ log. (log.end ≡ 0) × IsSettled area [] 0 (S.view store.new))) }
 
+    // Where a crash leaves what is read, the log can be appended to.
+    ensures ready { IsSynced area (S.view store.old) → IfOk result (λ log. IsReady log.area log.end (S.view store.new)) }
+
     ensures unwritten { Told (S.view store.old) (λ image. 1 ≤ length (area_of image area) → Calm (S.view store.old) (S.view store.new)) }
     ensures elsewhere { ReadsElsewhere area (S.view store.old) (S.view store.new) }
     ensures spends { Spends 1 0 (S.view store.old) (S.view store.new) }
     ensures any_moment { Leaves (Blanked area) (S.view store.old) (S.view store.new) }
-    ensures later { (S.view store.old).faults ≤ (S.view store.new).faults }
-    ensures fault { IsErrOf result StoreFault → Rose (S.view store.old).faults (S.view store.new).faults }
+    ensures cause { HasLogCause (S.view store.old).faults (S.view store.new).faults result }
+    ensures refused { IsErrOf result NotALog → Calm (S.view store.old) (S.view store.new) }
+    ensures short_of_memory { IsErrOf result LogFault.Memory → Calm (S.view store.old) (S.view store.new) }
     ensures memory { IsErrOf result LogFault.Memory → (S.view store.old).spare_calls < 1 }
 {
     let length = store.length(area)?;

@@ -1,5 +1,5 @@
 ghost use Rattle.std.specs.Prelude.{◌≡◌, ◌<◌, ◌≤◌, length};
-ghost use Rattle.dev_memory.specs.Images.{image_of};
+ghost use Rattle.dev_memory.specs.Images.{IsShort};
 
 use dev_memory::{Faults, Image, MemStore};
 use dev_traits::{Memory, Store};
@@ -18,14 +18,15 @@ pub fn body(number: usize) -> &'static [u8]
     }
 }
 
-/// Adds a body to the log of an area.
+/// Adds a body to the log of an area, which is synced and found first.
 pub fn add<S: Store>(alloc: Global, store: &mut S, area: u32, body: &[u8]) -> Result<(), LogFault>
     requires there { area < 3 }
     requires some { 1 ≤ length body.now }
 {
     let framed = frame(alloc, body)?;
+    store.room(6, framed.room())?;
+    store.sync(area)?;
     let mut log = find(store, area)?;
-    store.room(4, framed.room())?;
     append(store, &mut log, &framed)
 }
 
@@ -56,7 +57,8 @@ pub fn are_first(found: &[Octets], count: usize) -> bool {
 
 /// The bodies of the log of area 0 after a crash left this image.
 pub fn found_after(alloc: Global, image: Image) -> Result<Vec<Octets>, LogFault>
-    requires { length image.areas.items ≡ 3 }
+    requires three { length image.areas.items ≡ 3 }
+    requires short { IsShort image }
 {
     let mut store = MemStore::of_image(alloc, image, Faults::none(alloc))?;
     bodies(alloc, &mut store, 0)
@@ -77,14 +79,4 @@ pub fn crashes_well(alloc: Global, store: &MemStore, added: usize) -> Result<boo
         }
     }
     Ok(true)
-}
-
-/// A store whose area 0 has these bytes.
-pub fn with_area(alloc: Global, bytes: &[u8]) -> Result<MemStore, Memory> {
-    let mut areas = Vec::new(alloc);
-    areas.push(Octets::from_slice(alloc, bytes)?)?;
-    areas.push(Octets::from_slice(alloc, b"")?)?;
-    areas.push(Octets::from_slice(alloc, b"")?)?;
-    let files = Vec::new(alloc);
-    MemStore::of_image(alloc, Image { areas, files }, Faults::none(alloc))
 }

@@ -1,41 +1,23 @@
-use crate::logs::{add, add_all, are_first, body, crashes_well, left_by, with_area};
+use crate::logs::{add, add_all, are_first, body, crashes_well, left_by};
+use crate::stores::{failing, leaves, with_area};
 use dev_memory::{Faults, MemStore};
-use dev_traits::{Failed, Store};
+use dev_traits::Store;
 use gated_log::{LogFault, bodies, find, reset};
-use std::alloc::{AllocError, Global};
 use std::test::Fail;
-
-// Whether area 0 of a store reads as these bytes.
-fn reads_as(alloc: Global, store: &MemStore, bytes: &[u8]) -> Result<bool, AllocError> {
-    let image = store.image(alloc, 0)?;
-    match image.areas.first() {
-        Some(area) => Ok(area.as_slice() == bytes),
-        None => Ok(false),
-    }
-}
-
-fn failing(alloc: Global, store: &[u64], stop: Option<u64>) -> Result<Faults, AllocError> {
-    Ok(Faults {
-        store: store.to_vec(alloc)?,
-        maker: Vec::new(alloc),
-        reader: Vec::new(alloc),
-        stop,
-    })
-}
 
 #[test]
 fn a_log_is_written_as_its_format_says(rt: HostRuntime) -> Result<(), Fail> {
     let alloc = rt.alloc();
     let mut store = MemStore::new(alloc, Faults::none(alloc))?;
-    assert!(rt; reads_as(alloc, &store, b"")?);
+    assert!(rt; leaves(alloc, &store, 0, b"")?);
     assert!(rt; find(&mut store, 0).is_ok());
-    assert!(rt; reads_as(alloc, &store, b"\0")?);
+    assert!(rt; leaves(alloc, &store, 0, b"\0")?);
     assert_eq!(rt; add(alloc, &mut store, 0, b"A"), Ok(()));
-    assert!(rt; reads_as(alloc, &store, b"\xa5\0\0\0\0\0\0\0\x01A\0")?);
+    assert!(rt; leaves(alloc, &store, 0, b"\xa5\0\0\0\0\0\0\0\x01A\0")?);
     assert!(rt; matches!(bodies(alloc, &mut store, 0), Ok(found) if are_first(&found, 1)));
     store.room(1, 0)?;
     assert!(rt; reset(&mut store, 0).is_ok());
-    assert!(rt; reads_as(alloc, &store, b"\0")?);
+    assert!(rt; leaves(alloc, &store, 0, b"\0")?);
     assert_eq!(rt; store.faults(), 0);
     Ok(())
 }
@@ -78,8 +60,8 @@ fn a_crash_leaves_the_bodies_before_or_one_more(rt: HostRuntime) -> Result<(), F
 #[test]
 fn a_gate_that_is_not_synced_may_be_open_or_closed(rt: HostRuntime) -> Result<(), Fail> {
     let alloc = rt.alloc();
-    // The calls of a first add: the length, a blanking, the body's write and sync, the gate's write and sync.
-    let mut store = MemStore::new(alloc, failing(alloc, &[], Some(6))?)?;
+    // The calls of a first add: a sync, the length, a blanking, the body's write and sync, the gate's write and sync.
+    let mut store = MemStore::new(alloc, failing(alloc, &[], Some(7))?)?;
     assert_eq!(rt; add_all(alloc, &mut store)?, 0);
     for (pick, count) in [(0, 1), (1, 0), (2, 0), (3, 0), (5, 1)] {
         assert!(rt;
@@ -93,7 +75,7 @@ fn a_gate_that_is_not_synced_may_be_open_or_closed(rt: HostRuntime) -> Result<()
 #[test]
 fn a_listed_call_answers_its_fault_and_no_other_does(rt: HostRuntime) -> Result<(), Fail> {
     let alloc = rt.alloc();
-    for listed in 1..24 {
+    for listed in 1..27 {
         let mut store = MemStore::new(alloc, failing(alloc, &[listed], None)?)?;
         let added = add_all(alloc, &mut store)?;
         assert_eq!(rt; store.faults(), 1, "at {listed}");
@@ -108,16 +90,5 @@ fn a_listed_call_answers_its_fault_and_no_other_does(rt: HostRuntime) -> Result<
         }
         assert_eq!(rt; add(alloc, &mut store, 0, body(0)), Ok(()));
     }
-    Ok(())
-}
-
-#[test]
-fn an_area_is_written_past_its_end(rt: HostRuntime) -> Result<(), Fail> {
-    let alloc = rt.alloc();
-    let mut store = MemStore::new(alloc, Faults::none(alloc))?;
-    store.room(2, 3)?;
-    assert_eq!(rt; store.blank(0), Ok(()));
-    assert_eq!(rt; store.write_at(0, 1, b"xyz"), Ok(()));
-    assert!(rt; reads_as(alloc, &store, b"\0xyz")?);
     Ok(())
 }

@@ -25,18 +25,18 @@ leave_all-requires-clause-fits c =
     let parts = written_parts c.args.calls.now c.split_at.result.0.now c.split_at.result.1.now c.last_rest.result c.split_at.ensures.front c.split_at.ensures.back in
     omega (arith, parts, c.in_ok-at.ensures.size, ap length (take_rest c.args.pieces.now c.in_ok-at.at), length-drop c.in_ok-at.at c.args.pieces.now)
 
-pub returns : goal.returns
-returns c =
+pub returns-clause-left : goal.returns-clause-left
+returns-clause-left c =
     let early = c.split_at.result.0.now in
     let late = c.split_at.result.1.now in
     let a = c.args.area in
     let rest : IsAtRest (one_replay a (deeds c.args.pieces.now early) (at_rest c.args.start.now)) =
     subst (λ (l : List Call). IsAtRest (one_replay a (deeds c.args.pieces.now l) (at_rest c.args.start.now))) (sym c.split_at.ensures.front) (c.last_rest.ensures.rests c.args.pieces.now (at_rest c.args.start.now) refl) in
     let reads : c.replay.new.bytes.bytes ≡ (one_replay a (deeds c.args.pieces.now early) (at_rest c.args.start.now)).bytes = sym (c.in_ok-at.ensures.reads (at_rest c.args.start.now) (sym c.in_ok-bytes.ensures)) in
-    let copied : c.in_ok-left.left.bytes ≡ c.replay.new.bytes.bytes = c.in_ok-left.ensures ∙ c.as_slice.ensures in
+    let copied : c.in_ok-left.left.bytes ≡ c.replay.new.bytes.bytes = c.in_ok-left.ensures ∙ c.as_slice.ensures.bytes in
     let part : take (length c.args.pieces.now - c.in_ok-at.at) (drop c.in_ok-at.at c.args.pieces.now) ≡ drop (written early) c.args.pieces.now =
     take_rest c.args.pieces.now c.in_ok-at.at ∙ ap (λ (n : ℕ). drop n c.args.pieces.now) c.in_ok-at.ensures.size in
-    subst (Left c.args.pick (one_replay a (deeds c.args.pieces.now c.args.calls.now) (at_rest c.args.start.now))) (sym (c.from_vec.ensures ∙ c.into_vec.ensures))
+    subst (Left c.args.pick (one_replay a (deeds c.args.pieces.now c.args.calls.now) (at_rest c.args.start.now))) (sym (c.from_vec.ensures ∙ c.into_vec.ensures.bytes))
     (left_whole a c.args.pick c.args.start.now c.args.calls.now c.args.pieces.now c.last_rest.result early late c.replay.new.bytes.bytes c.leave_all.new.bytes.bytes c.leave_all.new.left.bytes c.split_at.ensures.front c.split_at.ensures.back rest reads
     (λ none. omega (arith, none))
     (λ d first. subst (λ (l : List ℕ). Stands c.args.pick (one_replay a (deeds l late) d) c.leave_all.new.bytes.bytes c.leave_all.new.left.bytes) part

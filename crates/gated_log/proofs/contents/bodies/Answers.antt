@@ -3,12 +3,13 @@ use Rattle.dev_traits.specs.Image.{area_of}
 use Rattle.dev_traits.proofs.Moments.{calm_then}
 use Rattle.gated_log.specs.Log.{IsLog, HasNone, IsBlock, IsScanned}
 use Rattle.gated_log.proofs.Blocks.{scans_start, scans_with, block_body, is_log_here}
+use Rattle.gated_log.proofs.Finding.{cause_ok}
 use Rattle.gated_log.proofs.contents.bodies.Goals as goal
 
 pub loop-bodies-init : goal.loop-bodies-init
 loop-bodies-init g c = record {
   calm = c.length.ensures.calm;
-  later = omega (arith, c.length.ensures.cause.later);
+  faults = c.in_ok-end.ensures.cause.well;
   inside = omega arith;
   scanned = λ image told.
       let start = scans_start (area_of image c.args.area) (omega (arith, c.in_ok-end.ensures.length image told)) in
@@ -37,7 +38,7 @@ loop-bodies-preserved g c =
     let was = c.loop-bodies.invariant in
     record {
       calm = calm_then _ _ _ (calm_then _ _ _ was.calm c.next.ensures.calm) c.body.ensures.calm;
-      later = omega (arith, was.later, c.next.ensures.later, c.body.ensures.later);
+      faults = cause_ok _ _ _ c.in_ok-found-in-Some.ensures.cause ∙ cause_ok _ _ _ c.in_ok-gate.ensures.cause ∙ was.faults;
       inside = (subst (λ (o : Option ℕ). IfSome o (λ gate. (c.loop-bodies.at + 9 < gate) × (gate < c.in_ok-end.end))) c.in-Some.is c.in_ok-gate.ensures.inside).1;
       scanned = λ image told. one_more (area_of image c.args.area) c.loop-bodies.at c.in-Some.gate c.loop-bodies.bodies.items c.push.new.self.items c.in_ok-found-in-Some.found (was.scanned image told)
           (subst (λ (o : Option ℕ). MatchOption o (HasNone (drop c.loop-bodies.at (area_of image c.args.area))) (λ gate. IsBlock c.loop-bodies.at gate (area_of image c.args.area))) c.in-Some.is (c.in_ok-gate.ensures.block image (was.calm.seen ∙ told)))

@@ -58,3 +58,33 @@ returns-clause-settled g c bodies end settled =
         each = each_still (λ (i : Image). EndsAt bodies end (area_of i c.args.area)) _ _ calm.crash settled.each;
       },
     )
+
+pub returns-clause-ready : goal.returns-clause-ready
+returns-clause-ready g c synced honest =
+    let calm = calm_then _ _ _ c.length.ensures.calm c.closed_gate.ensures.calm in
+    let read = g.met.S.Store.honest_reads c.args.store.now (subst (λ (b : Bool). IsTrue b) calm.honest honest) in
+    let found = c.in_ok-end.ensures.found read.0 (c.length.ensures.calm.seen ∙ read.1) in
+    let ends = ends_here (area_of read.0 c.args.area) c.in_ok-end.end found.0 found.1 found.0.bodies (is_log_here (area_of read.0 c.args.area) c.in_ok-end.end found.0 found.1) in (
+      found.0.bodies,
+      record {
+        honest = honest;
+        each = each_still (λ (i : Image). EndsAt found.0.bodies c.in_ok-end.end (area_of i c.args.area)) _ _ calm.crash
+            (λ left may. subst (EndsAt found.0.bodies c.in_ok-end.end) (sym (synced read.0 read.1 left may)) ends);
+      },
+    )
+
+pub returns-then-length-eq0-clause-ready : goal.returns-then-length-eq0-clause-ready
+returns-then-length-eq0-clause-ready g c synced = at_ok c.reset.result _ _ _ c.reset.ensures.durable c.reset.ensures.log
+    (λ durable log is honest. (
+      [],
+      record {
+        honest = honest;
+        each = λ left may. subst (λ (a : ℕ). EndsAt [] log.end (area_of left a)) (sym is.0) (subst (λ (n : ℕ). EndsAt [] n (area_of left c.args.area)) (sym is.1) (durable left may));
+      },
+    ))
+
+pub returns-in_err-room-clause-short_of_memory : goal.returns-in_err-room-clause-short_of_memory
+returns-in_err-room-clause-short_of_memory g c is = calm_then _ _ _ c.length.ensures.calm c.room.ensures.calm
+
+pub returns-in_err-end-clause-refused : goal.returns-in_err-end-clause-refused
+returns-in_err-end-clause-refused g c is = calm_then _ _ _ c.length.ensures.calm c.closed_gate.ensures.calm

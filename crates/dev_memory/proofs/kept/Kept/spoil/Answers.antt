@@ -27,6 +27,7 @@ invariant_of-self c =
         three = c.self.invariant.valid.three;
         settled = ap (list_all (settled_by n)) (whole c) ∙ (before c).settled (ap (list_all (settled_by n)) c.deref_mut.ensures.value ∙ c.self.invariant.valid.settled);
       };
+      short = c.self.invariant.short;
       reads = c.self.invariant.reads;
       fits = c.self.invariant.fits;
       rooms = c.self.invariant.rooms;

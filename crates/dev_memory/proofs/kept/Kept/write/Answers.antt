@@ -14,7 +14,7 @@ invariant_of-self c =
     let bytes = area_bytes _ _ _ _ _ _ _ _ _ _ c.self.invariant c.args.area slot.result.now slot.ensures.value c.requires.there in
     let seen = ap (λ (k : KeptView). length (area_of (read_of (disk_now k.held)) c.args.area)) c.self.view_is in
     keep_write _ _ _ _ _ _ _ _ _ _ c.self.invariant c.args.area c.args.at (length c.args.piece.now) c.args.piece.now c.write.new.self _ _ _ _ _ _ _ c.push_reserved.ensures.items c.append.ensures.items refl
-    (omega (arith, seen, c.requires.some)) (omega (arith, seen, c.requires.inside))
+    (omega (arith, seen, c.requires.some)) (omega (arith, seen, c.requires.inside)) c.requires.short
     (c.write.ensures.written ∙ ap (λ (l : List ℕ). overwritten l c.args.at c.args.piece.now) bytes) (omega (arith, room, c.write.ensures.spends))
     (omega arith)
     (omega (arith, c.self.invariant.for_calls, c.push_reserved.ensures.len, c.push_reserved.ensures.capacity))

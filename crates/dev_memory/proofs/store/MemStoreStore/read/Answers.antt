@@ -9,4 +9,4 @@ pub returns-clause-calm : goal.returns-clause-calm
 returns-clause-calm c = calm _ _ _ _ _ _ _ _ (omega arith) (omega arith)
 
 pub copy_from-requires : goal.copy_from-requires
-copy_from-requires c = omega (arith, c.requires.inside _ refl, ap length c.area.ensures)
+copy_from-requires c = omega (arith, c.requires.inside _ refl, ap length c.area.ensures.bytes)

@@ -9,8 +9,11 @@ returns-then-strikes-clause-calm c = calm _ _ _ _ _ _ _ _ (omega arith) (omega a
 pub returns-clause-calm : goal.returns-clause-calm
 returns-clause-calm c = calm _ _ _ _ _ _ _ _ (omega arith) (omega arith)
 
-pub returns-clause-reader : goal.returns-clause-reader
-returns-clause-reader c = if_ok c.open_number.result _ _ c.open_number.ensures.found (λ reader found image told. record { same = found.over ∙ sym (file_read c.args.self.now.kept.held c.args.number image told); faults = found.faults; reads = found.reads })
+pub returns-clause-bytes : goal.returns-clause-bytes
+returns-clause-bytes c = if_ok c.open_number.result _ _ c.open_number.ensures.found (λ reader found image told. found.over ∙ sym (file_read c.args.self.now.kept.held c.args.number image told))
+
+pub returns-clause-new : goal.returns-clause-new
+returns-clause-new c = if_ok c.open_number.result _ _ c.open_number.ensures.found (λ reader found. record { faults = found.faults; reads = found.reads })
 
 pub returns-clause-there : goal.returns-clause-there
 returns-clause-there c = if_ok c.open_number.result _ _ c.open_number.ensures.found (λ reader found image told. let same : Some reader.file ≡ file image c.args.number = found.over ∙ sym (file_read c.args.self.now.kept.held c.args.number image told) in subst (λ (o : Option (List ℕ)). IsSome o) same (search rules))
