@@ -1,17 +1,22 @@
 -- How an answer tells what was read.
-use Rattle.std.specs.Prelude.{◌≡◌, ℕ, ◌-◌, ◌*◌, ◌^◌, ℤ, Option, Some, None, IsSome, option_and_then, Result, Ok, Err, List, length, nat_le, if◌then◌else◌}
+use Rattle.std.specs.Prelude.{◌≡◌, ℕ, ◌-◌, ◌*◌, ◌^◌, ℤ, Option, Some, None, IsSomeAnd, option_and_then, Result, Ok, Err, List, length, nat_le, if◌then◌else◌, ⊤}
 use Rattle.pk_values.specs.declared.cells.Value.{Value}
 use Rattle.pk_values.specs.declared.cells.Value.TheVariants.{Text}
 use Rattle.pk_values.specs.Fits.{in_range}
+use Rattle.pk_values.specs.Shapes.{IsText}
 use Rattle.cell_text.specs.Cells.{number_of}
 use Rattle.cell_text.specs.declared.faults.CellFault.{CellFault}
 use Rattle.cell_text.specs.declared.faults.CellFault.TheVariants.{BadCell, Memory}
 
--- the value that was read, `BadCell` where there is none; memory can only be wanted where there is one
+-- a cell that is a text; NULL is none
+abbrev pub IsTextCell : Option Value → Type 0
+IsTextCell cell = IsSomeAnd cell (IsText (λ t. ⊤))
+
+-- the value that was read, `BadCell` where there is none; memory can only be wanted for a text
 abbrev pub IsReading : Option Value → Result Value CellFault → Type 0
 IsReading cell (Ok value) = cell ≡ Some value
 IsReading cell (Err BadCell) = cell ≡ None
-IsReading cell (Err Memory) = IsSome cell
+IsReading cell (Err Memory) = IsTextCell cell
 
 abbrev pub if_at_most : ℕ → ℕ → Option ℕ
 if_at_most most n = if nat_le n most then Some n else None

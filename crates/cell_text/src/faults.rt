@@ -6,7 +6,7 @@ pub enum CellFault {
     /// The bytes are no value of the kind.
     #[error("the bytes are no value of the column's type")]
     BadCell,
-    /// Memory was wanted for a text.
+    /// Memory ran out for a text.
     #[error("memory ran out")]
     Memory,
 }

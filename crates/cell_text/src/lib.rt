@@ -10,6 +10,3 @@ mod write;
 pub use faults::CellFault;
 pub use read::read_cell;
 pub use write::write_cell;
-
-#[cfg(test)]
-mod tests;

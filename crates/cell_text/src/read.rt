@@ -4,7 +4,7 @@ ghost use Rattle.pk_values.specs.declared.cells.Value.TheVariants.{Bool, Num, Da
 ghost use Rattle.pk_values.specs.Fits.{null_mark};
 ghost use Rattle.cell_text.specs.Days.{day_of};
 ghost use Rattle.cell_text.specs.Cells.{cell_of, is_word, truth_of};
-ghost use Rattle.cell_text.specs.Readings.{IsReading, number_in, text_within};
+ghost use Rattle.cell_text.specs.Readings.{IsReading, IsTextCell, number_in, text_within};
 
 use crate::dates::read_date;
 use crate::faults::CellFault;
@@ -78,10 +78,12 @@ fn read_value(alloc: Global, kind: Kind, bytes: &[u8]) -> Result<Value, CellFaul
 /// Gregorian calendar has it, from year 0 on; VARCHAR(n) any text of at most n bytes.
 ///
 /// # Errors
-/// `BadCell` exactly where the bytes have no reading. `Memory` where a text could not be kept.
+/// `BadCell` exactly where the bytes have no reading. `Memory` only where they read as a text, for
+/// which memory ran out: NULL, a truth value, a number and a day take none.
 pub fn read_cell(alloc: Global, kind: &Kind, bytes: &[u8]) -> Result<Value, CellFault>
     ensures cell { IfOk result (λ value. cell_of kind.now bytes.now ≡ Some value) }
     ensures bad { IsErrOf result CellFault.BadCell ↔ (cell_of kind.now bytes.now ≡ None) }
+    ensures memory { IsErrOf result CellFault.Memory → IsTextCell (cell_of kind.now bytes.now) }
 {
     if bytes == b"\\N".as_slice() {
         return Ok(Value::Null);

@@ -1,11 +1,13 @@
 -- The words that the program takes.
-use Rattle.std.specs.Prelude.{ℕ, List, [], ◌∷◌, Bool, true, false, not, ◌==◌, ◌&&◌, if◌then◌else◌, codes, Option, Some, None}
+use Rattle.std.specs.Prelude.{ℕ, List, [], ◌∷◌, Bool, true, false, not, ◌==◌, ◌&&◌, ◌||◌, if◌then◌else◌, codes, Option, Some, None}
 use Rattle.std.specs.Prelude.{map}
 use Rattle.std.specs.Str.{bytes_eq}
 use Rattle.std.specs.Borrow.{Bor}
 use Rattle.clap.specs.Simple.{App, new_app, new_rule, on_top, with_rule}
 use Rattle.clap.specs.Walk.{Rule}
 use Rattle.clap.specs.declared.builder.action.ArgAction.TheVariants.{Set}
+use Rattle.command_line.specs.declared.Asked.{Asked}
+use Rattle.command_line.specs.declared.Asked.TheVariants.{Help, Version}
 use Rattle.command_line.specs.declared.Files.{Files}
 
 -- a word that isn't empty and doesn't begin with a hyphen
@@ -25,6 +27,13 @@ files_of (a ∷ b ∷ []) = None
 files_of (a ∷ b ∷ c ∷ []) =
     if bytes_eq a (codes "run") && (is_plain b && is_plain c) then Some (record { table = b; script = c }) else None
 files_of (a ∷ b ∷ c ∷ d ∷ rest) = None
+
+-- what a word that stands alone asks for
+abbrev pub asked_by : List ℕ → Option Asked
+asked_by word =
+    if bytes_eq word (codes "--help") || bytes_eq word (codes "-h") then Some Help
+    else if bytes_eq word (codes "--version") || bytes_eq word (codes "-V") then Some Version
+    else None
 
 -- the words behind references, and the files that an answer names
 abbrev pub texts : List (Bor (List ℕ)) → List (List ℕ)

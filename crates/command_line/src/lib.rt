@@ -1,9 +1,9 @@
 //! The words of the command line: `run TABLE SCRIPT`, read by `clap`.
 #![tactic(auto)]
 
-ghost use Rattle.std.specs.Prelude.{◌≡◌, Some, None, IsSome, IfOk, IfErr};
+ghost use Rattle.std.specs.Prelude.{◌≡◌, ◌↔◌, Some, None, IsSome, IfOk, IfErr, IsErrOf, IsOk, is_some};
 ghost use Rattle.clap.specs.Words.{app_of};
-ghost use Rattle.command_line.specs.Words.{files_of, files_view, texts};
+ghost use Rattle.command_line.specs.Words.{asked_by, files_of, files_view, texts};
 
 use clap::error::ErrorKind;
 use clap::{Arg, ArgAction, Command};
@@ -15,15 +15,17 @@ pub enum WordsFault {
     /// They are not `run` and two names, each of which is not empty and does not begin with `-`.
     #[error("the words are not `run TABLE SCRIPT`")]
     Words,
-    /// Memory was wanting.
-    #[error("there was not enough memory")]
+    /// Memory ran out.
+    #[error("memory ran out")]
     Memory,
 }
 
 /// The names of a table's file and of a script's.
 #[derive(Clone, Copy, Debug, Drop)]
 pub struct Files<'a> {
+    /// The name of the table's file: not empty, and not beginning with `-`.
     pub table: &'a str,
+    /// The name of the script's file, likewise.
     pub script: &'a str,
 }
 
@@ -81,10 +83,11 @@ fn parsed<'a>(alloc: Global, words: &'a [&'a str]) -> Result<Files<'a>, WordsFau
 /// The files that the words name, without the program's name: `run`, the table's and the script's.
 ///
 /// # Errors
-/// `Words` exactly where the words are none that are taken. `Memory` where memory ran out.
+/// `Words` exactly where the words are not `run` and two such names. `Memory` where they are, and
+/// memory ran out.
 pub fn read_words<'a>(alloc: Global, words: &'a [&'a str]) -> Result<Files<'a>, WordsFault>
     ensures files { IfOk result (λ f. files_of (texts words.entry.now) ≡ Some (files_view f)) }
-    ensures words { IfErr result (λ e. e ≡ WordsFault.Words → files_of (texts words.entry.now) ≡ None) }
+    ensures words { IsErrOf result WordsFault.Words ↔ (files_of (texts words.entry.now) ≡ None) }
 {
     if words.len() != 3 || words[0] != "run" || !is_plain(words[1]) || !is_plain(words[2]) {
         return Err(WordsFault::Words);
@@ -120,22 +123,50 @@ fn described<'a>(alloc: Global) -> Result<Command<'a>, AllocError> {
 const AFTER: &str = "\
 Jobs (the lines of a script; `#` begins a comment):
   @1 load FILE     load a CSV file: its rows replace those of their keys, and `__op` 1 deletes
-  @1 scan latest   print the rows of the latest version, or of the version of a number
+  @1 scan latest   print the rows of the latest version
+  @1 scan 3        print the rows of version 3
   @1 stat          count versions, rows and rowsets
   wait             begin a new phase";
 
-/// What a single word that asks for help, or for the version, is answered: `--help`, `-h`, `--version` or `-V`, as `clap` writes it. None for any other word.
-pub fn text_for(alloc: Global, word: &str) -> Result<Option<String>, AllocError> {
-    match word {
-        "--help" | "-h" => {
+// What a single word asks for.
+#[derive(Clone, Copy, Debug, Drop)]
+enum Asked {
+    Help,
+    Version,
+}
+
+fn asked_by(word: &str) -> Option<Asked>
+    ensures { result ≡ asked_by word.now }
+{
+    if word == "--help" || word == "-h" {
+        Some(Asked::Help)
+    } else if word == "--version" || word == "-V" {
+        Some(Asked::Version)
+    } else {
+        None
+    }
+}
+
+/// The text that a word asks for when it stands alone: the help for `--help` and `-h`, the
+/// program's name and version for `--version` and `-V`, as `clap` writes them. None for any other
+/// word.
+///
+/// # Errors
+/// `AllocError` where memory ran out.
+pub fn text_for(alloc: Global, word: &str) -> Result<Option<String>, AllocError>
+    ensures asked { IfOk result (λ text. is_some text ≡ is_some (asked_by word.now)) }
+    ensures unasked { asked_by word.now ≡ None → IsOk result }
+{
+    match asked_by(word) {
+        Some(Asked::Help) => {
             let mut command = described(alloc)?;
             Ok(Some(command.render_help()?))
         }
-        "--version" | "-V" => {
+        Some(Asked::Version) => {
             let command = described(alloc)?;
             Ok(Some(command.render_version()?))
         }
-        _ => Ok(None),
+        None => Ok(None),
     }
 }
 

@@ -16,7 +16,9 @@ use Rattle.pk_values.specs.Fits.{fits, fits_kind}
 use Rattle.pk_values.specs.Order.{value_cmp}
 use Rattle.pk_values.specs.OrderFacts.{value_exact}
 use Rattle.key_code.specs.Escapes.{escaped, unescaped}
-use Rattle.key_code.specs.Shapes.{HasCode, IsNumber, IsText}
+use Rattle.fixed_code.specs.NumberCode.{FitsBytes}
+use Rattle.pk_values.specs.Shapes.{IsNumber}
+use Rattle.key_code.specs.Shapes.{HasCode, IsAnyText}
 use Rattle.key_code.specs.KeyCode.{cell_code, cells_code, no_more, numeric_code, text_code}
 use Rattle.key_code.specs.Keys.{AreCells, HaveNoCells}
 use Rattle.key_code.specs.Reads.{EndsText, IsCell, IsFront}
@@ -28,14 +30,14 @@ use Rattle.std.specs.FinMap.{slice_cmp-IsAntisymmetric, nat_cmp-IsAntisymmetric}
 -- ---- one kind
 
 -- too few bytes for a number
-pub short_number : (w : ℕ) (bs : List ℕ) → length bs < w → IsFront (IsNumber w) (numeric_code w) bs None
+pub short_number : (w : ℕ) (bs : List ℕ) → length bs < w → IsFront (IsNumber (FitsBytes w)) (numeric_code w) bs None
 short_number w bs lt value.Null more h e = absurd h
 short_number w bs lt (value.Bool b) more h e = absurd h
 short_number w bs lt (value.Num z) more h e = omega (arith, ap length e, length-append (numeric_code w (value.Num z)) more, length-code w z)
 short_number w bs lt (value.Day d) more h e = absurd h
 short_number w bs lt (value.Text t) more h e = absurd h
 
-pub no_text : (bs : List ℕ) → None ≡ unescaped bs → IsFront IsText (text_code false) bs None
+pub no_text : (bs : List ℕ) → None ≡ unescaped bs → IsFront IsAnyText (text_code false) bs None
 no_text bs none value.Null more h e = absurd h
 no_text bs none (value.Bool b) more h e = absurd h
 no_text bs none (value.Num z) more h e = absurd h
@@ -71,7 +73,7 @@ part_then last (text a) (flag b) s t fit ends = absurd fit
 part_then last (text a) (number v b) s t fit ends = absurd fit
 
 -- of two values of a kind whose codes begin the same bytes
-same_cell : (last : Bool) (k : Kind) (v u : Value) (s t : List ℕ) → HasCode k v → HasCode k u → (last ≡ true → IsText v → s ≡ []) → (last ≡ true → t ≡ []) → cell_code last k v ++ s ≡ cell_code last k u ++ t → (v ≡ u) × (s ≡ t)
+same_cell : (last : Bool) (k : Kind) (v u : Value) (s t : List ℕ) → HasCode k v → HasCode k u → (last ≡ true → IsAnyText v → s ≡ []) → (last ≡ true → t ≡ []) → cell_code last k v ++ s ≡ cell_code last k u ++ t → (v ≡ u) × (s ≡ t)
 same_cell last k v u s t f g ends ends' e =
     let order : slice_cmp nat_cmp (cell_code last k v ++ s) (cell_code last k u ++ t) ≡ ordering_then (value_cmp v u) (slice_cmp nat_cmp s t) =
     ap₂ (λ (x y : List ℕ). slice_cmp nat_cmp (x ++ s) (y ++ t)) (code_is last k v f) (code_is last k u g)
@@ -201,13 +203,13 @@ pub cell_unfit_at : (last : Bool) (k : Kind) (bs : List ℕ) (o : Option (Value 
 cell_unfit_at last k bs o v n e front ends fits =
     cell_unfit last k bs v n (subst (λ (p : Option (Value × ℕ)). IsFront (HasCode k) (cell_code last k) bs p) e front) (subst (λ (p : Option (Value × ℕ)). IfSome p (EndsText last bs)) e ends) fits
 
-pub escaped_front : (last : Bool) (bs t r : List ℕ) (n : ℕ) → last ≡ false → r ≡ t → Some (t, drop n bs) ≡ unescaped bs → n ≤ length bs → IsFront IsText (text_code last) bs (Some (value.Text r, n))
+pub escaped_front : (last : Bool) (bs t r : List ℕ) (n : ℕ) → last ≡ false → r ≡ t → Some (t, drop n bs) ≡ unescaped bs → n ≤ length bs → IsFront IsAnyText (text_code last) bs (Some (value.Text r, n))
 escaped_front last bs t r n e same found within =
-    subst (λ (l : Bool). IsFront IsText (text_code l) bs (Some (value.Text r, n))) (sym e)
-    (subst (λ (x : List ℕ). IsFront IsText (text_code false) bs (Some (value.Text x, n))) (sym same) (tt, escaped_text bs t n found, within))
+    subst (λ (l : Bool). IsFront IsAnyText (text_code l) bs (Some (value.Text r, n))) (sym e)
+    (subst (λ (x : List ℕ). IsFront IsAnyText (text_code false) bs (Some (value.Text x, n))) (sym same) (tt, escaped_text bs t n found, within))
 
-pub no_text_at : (last : Bool) (bs : List ℕ) → last ≡ false → None ≡ unescaped bs → IsFront IsText (text_code last) bs None
-no_text_at last bs e none = subst (λ (l : Bool). IsFront IsText (text_code l) bs None) (sym e) (no_text bs none)
+pub no_text_at : (last : Bool) (bs : List ℕ) → last ≡ false → None ≡ unescaped bs → IsFront IsAnyText (text_code last) bs None
+no_text_at last bs e none = subst (λ (l : Bool). IsFront IsAnyText (text_code l) bs None) (sym e) (no_text bs none)
 
 -- what stands from a place on
 pub take_rest : (bs : List ℕ) (at : ℕ) → take (length bs - at) (drop at bs) ≡ drop at bs

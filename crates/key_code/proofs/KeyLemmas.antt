@@ -18,7 +18,8 @@ use Rattle.pk_values.specs.OrderFacts.{key_exact}
 use Rattle.pk_values.specs.Schemas.{Layout, fits_key, schema_fault}
 use Rattle.pk_values.specs.SchemaFacts.{lawful_column}
 use Rattle.key_code.specs.Keys.{AreCells, AreOfKinds, HaveNoCells, IsKeyOf, IsNoKey}
-use Rattle.key_code.specs.Shapes.{HasCode, HaveCodes, IsDay, IsNumber, IsText, IsTruth}
+use Rattle.pk_values.specs.Shapes.{IsDay, IsFlag, IsNumber}
+use Rattle.key_code.specs.Shapes.{HasCode, HaveCodes, IsAnyText}
 use Rattle.key_code.specs.KeyCode.{IsInOrder, IsOnlyCodeOf, cell_code, cells_code, day_code, key_code as code_of, no_more, numeric_code, text_code, truth_code}
 use Rattle.key_code.proofs.Parts.{FitOne, FitOneSchema, Part, cmp_key, cmp_part, flag, is_nil, key_code, number, part_code, text}
 use Rattle.key_code.proofs.KeyOrder.{keys_in_order, same_list}
@@ -49,7 +50,7 @@ pub record CellFacts (p q : Part) (a b : Value) : Type 0 where
   pub fit : FitOne p q
   pub order : cmp_part p q ≡ value_cmp a b
 
-flag_facts : (w : ℕ) (a b : Value) → IsTruth a → IsTruth b → CellFacts (part_in w a) (part_in w b) a b
+flag_facts : (w : ℕ) (a b : Value) → IsFlag a → IsFlag b → CellFacts (part_in w a) (part_in w b) a b
 unfolding part_in
 flag_facts w value.Null b f g = absurd f
 flag_facts w (value.Bool x) value.Null f g = absurd g
@@ -64,7 +65,7 @@ flag_facts w (value.Num x) b f g = absurd f
 flag_facts w (value.Day x) b f g = absurd f
 flag_facts w (value.Text x) b f g = absurd f
 
-number_facts : (w : ℕ) (a b : Value) → 1 ≤ w → w ≤ 16 → IsNumber w a → IsNumber w b → CellFacts (part_in w a) (part_in w b) a b
+number_facts : (w : ℕ) (a b : Value) → 1 ≤ w → w ≤ 16 → IsNumber (FitsBytes w) a → IsNumber (FitsBytes w) b → CellFacts (part_in w a) (part_in w b) a b
 unfolding part_in
 number_facts w value.Null b low high f g = absurd f
 number_facts w (value.Bool x) b low high f g = absurd f
@@ -76,7 +77,7 @@ number_facts w (value.Num x) (value.Text y) low high f g = absurd g
 number_facts w (value.Day x) b low high f g = absurd f
 number_facts w (value.Text x) b low high f g = absurd f
 
-day_facts : (a b : Value) → IsDay a → IsDay b → CellFacts (part_in 4 a) (part_in 4 b) a b
+day_facts : (a b : Value) → IsDay (FitsBytes 4) a → IsDay (FitsBytes 4) b → CellFacts (part_in 4 a) (part_in 4 b) a b
 unfolding part_in
 day_facts value.Null b f g = absurd f
 day_facts (value.Bool x) b f g = absurd f
@@ -88,7 +89,7 @@ day_facts (value.Day x) (value.Day y) f g = record { fit = (refl, omega arith, o
 day_facts (value.Day x) (value.Text y) f g = absurd g
 day_facts (value.Text x) b f g = absurd f
 
-text_facts : (w : ℕ) (a b : Value) → IsText a → IsText b → CellFacts (part_in w a) (part_in w b) a b
+text_facts : (w : ℕ) (a b : Value) → IsAnyText a → IsAnyText b → CellFacts (part_in w a) (part_in w b) a b
 unfolding part_in
 text_facts w value.Null b f g = absurd f
 text_facts w (value.Bool x) b f g = absurd f
@@ -111,7 +112,7 @@ facts kind.LargeInt a b f g = number_facts 16 a b (omega arith) (omega arith) f 
 facts kind.Date a b f g = day_facts a b f g
 facts (kind.Varchar n) a b f g = text_facts 0 a b f g
 
-flag_is : (w : ℕ) (last : Bool) (a : Value) → IsTruth a → truth_code a ≡ part_code last (part_in w a)
+flag_is : (w : ℕ) (last : Bool) (a : Value) → IsFlag a → truth_code a ≡ part_code last (part_in w a)
 unfolding part_in
 flag_is w last value.Null f = absurd f
 flag_is w last (value.Bool x) f = refl
@@ -119,7 +120,7 @@ flag_is w last (value.Num x) f = absurd f
 flag_is w last (value.Day x) f = absurd f
 flag_is w last (value.Text x) f = absurd f
 
-number_is : (w : ℕ) (last : Bool) (a : Value) → IsNumber w a → numeric_code w a ≡ part_code last (part_in w a)
+number_is : (w : ℕ) (last : Bool) (a : Value) → IsNumber (FitsBytes w) a → numeric_code w a ≡ part_code last (part_in w a)
 unfolding part_in
 number_is w last value.Null f = absurd f
 number_is w last (value.Bool x) f = absurd f
@@ -127,7 +128,7 @@ number_is w last (value.Num x) f = refl
 number_is w last (value.Day x) f = absurd f
 number_is w last (value.Text x) f = absurd f
 
-day_is : (last : Bool) (a : Value) → IsDay a → day_code a ≡ part_code last (part_in 4 a)
+day_is : (last : Bool) (a : Value) → IsDay (FitsBytes 4) a → day_code a ≡ part_code last (part_in 4 a)
 unfolding part_in
 day_is last value.Null f = absurd f
 day_is last (value.Bool x) f = absurd f
@@ -135,7 +136,7 @@ day_is last (value.Num x) f = absurd f
 day_is last (value.Day x) f = refl
 day_is last (value.Text x) f = absurd f
 
-text_is : (w : ℕ) (last : Bool) (a : Value) → IsText a → text_code last a ≡ part_code last (part_in w a)
+text_is : (w : ℕ) (last : Bool) (a : Value) → IsAnyText a → text_code last a ≡ part_code last (part_in w a)
 unfolding part_in
 text_is w last value.Null f = absurd f
 text_is w last (value.Bool x) f = absurd f
@@ -359,7 +360,7 @@ pub a_text : (t : List ℕ) → IsTextPart (text t)
 unfolding IsTextPart
 a_text t = tt
 
-pub text_part : (k : Kind) (v : Value) → IsTextPart (part_of k v) → IsText v
+pub text_part : (k : Kind) (v : Value) → IsTextPart (part_of k v) → IsAnyText v
 unfolding IsTextPart part_of part_in
 text_part k value.Null x = absurd x
 text_part k (value.Bool b) x = absurd x

@@ -4,7 +4,7 @@ use Rattle.pk_values.specs.declared.cells.Kind.{Kind}
 use Rattle.pk_values.specs.declared.cells.Value.{Value}
 use Rattle.pk_values.specs.Fits.{fits_kind}
 use Rattle.key_code.specs.KeyCode.{cell_code}
-use Rattle.key_code.specs.Shapes.{IsText}
+use Rattle.key_code.specs.Shapes.{IsAnyText}
 
 -- the value whose code stands at the front of the bytes, and how many bytes it takes; nothing where no code stands there
 abbrev pub IsFront : (Value → Type 0) → (Value → List ℕ) → List ℕ → Option (Value × ℕ) → Type 0
@@ -13,7 +13,7 @@ IsFront HasCode code bytes None = (v : Value) (more : List ℕ) → HasCode v �
 
 -- a text that ends the key takes all the bytes
 abbrev pub EndsText : Truth → List ℕ → (Value × ℕ) → Type 0
-EndsText last bytes p = last ≡ true → IsText p.0 → drop p.1 bytes ≡ []
+EndsText last bytes p = last ≡ true → IsAnyText p.0 → drop p.1 bytes ≡ []
 
 -- the bytes begin with the code of a value of this kind, and end with it where a key ends there
 abbrev pub BeginsWith : Truth → Kind → List ℕ → Value → List ℕ → Type 0

@@ -1,5 +1,7 @@
 ghost use Rattle.std.specs.Prelude.{◌≡◌, ◌≤◌, IfOk, IfSome, IfNone, IsErr, IsErrOf, [], drop, true, length};
-ghost use Rattle.key_code.specs.Shapes.{HasCode, IsDay, IsNumber, IsText, IsTruth};
+ghost use Rattle.pk_values.specs.Shapes.{IsDay, IsFlag, IsNumber};
+ghost use Rattle.fixed_code.specs.NumberCode.{FitsBytes};
+ghost use Rattle.key_code.specs.Shapes.{HasCode, IsAnyText};
 ghost use Rattle.key_code.specs.KeyCode.{IsOnlyCodeOf, cell_code, day_code, numeric_code, text_code, truth_code};
 ghost use Rattle.key_code.specs.Reads.{EndsText, IsCell, IsFront};
 ghost use Rattle.key_code.specs.Keys.{AreCells, HaveNoCells, IsKeyOf, IsNoKey};
@@ -14,13 +16,13 @@ use std::alloc::{AllocError, Global};
 type Front = Option<(Value, usize)>;
 
 fn read_truth(bytes: &[u8]) -> Result<Front, AllocError>
-    ensures { IfOk result (IsFront IsTruth truth_code bytes.now) }
+    ensures { IfOk result (IsFront IsFlag truth_code bytes.now) }
 {
     Ok(truth_front(bytes))
 }
 
 fn truth_front(bytes: &[u8]) -> Front
-    ensures { IsFront IsTruth truth_code bytes.now result }
+    ensures { IsFront IsFlag truth_code bytes.now result }
 {
     let first = *bytes.first()?;
     if first == 0 {
@@ -35,7 +37,7 @@ fn truth_front(bytes: &[u8]) -> Front
 fn read_number<const W: usize>(bytes: &[u8]) -> Result<Front, AllocError>
     requires low { 1 ≤ W }
     requires high { W ≤ 16 }
-    ensures { IfOk result (IsFront (IsNumber W) (numeric_code W) bytes.now) }
+    ensures { IfOk result (IsFront (IsNumber (FitsBytes W)) (numeric_code W) bytes.now) }
 {
     match bytes.first_chunk::<W>() {
         Some(code) => Ok(Some((Value::Num(get::<W>(*code)), W))),
@@ -44,7 +46,7 @@ fn read_number<const W: usize>(bytes: &[u8]) -> Result<Front, AllocError>
 }
 
 fn read_day(bytes: &[u8]) -> Result<Front, AllocError>
-    ensures { IfOk result (IsFront IsDay day_code bytes.now) }
+    ensures { IfOk result (IsFront (IsDay (FitsBytes 4)) day_code bytes.now) }
 {
     match bytes.first_chunk::<4>() {
         Some(code) => Ok(Some((Value::Day(get::<4>(*code) as i32), 4))),
@@ -54,7 +56,7 @@ fn read_day(bytes: &[u8]) -> Result<Front, AllocError>
 
 // A text in the last key column takes all the bytes.
 fn read_text(alloc: Global, bytes: &[u8], last: bool) -> Result<Front, AllocError>
-    ensures front { IfOk result (IsFront IsText (text_code last) bytes.now) }
+    ensures front { IfOk result (IsFront IsAnyText (text_code last) bytes.now) }
     ensures ends { IfOk result (λ front. IfSome front (λ p. last ≡ true → drop p.1 bytes.now ≡ [])) }
 {
     if last {
@@ -122,8 +124,8 @@ fn read_cells(
 /// The key of a table whose code the bytes are.
 ///
 /// # Errors
-/// `NotAKey` exactly where the bytes are the code of no key that fits the table. `Memory` where
-/// memory ran out.
+/// `NotAKey` where the bytes are the code of no key that fits the table, and nowhere else.
+/// `Memory` where memory ran out, which may come in place of either answer.
 pub fn decode(alloc: Global, schema: &Schema, bytes: &[u8]) -> Result<Key, DecodeFault>
     ensures key { IfOk result (IsKeyOf schema.now bytes.now) }
     ensures only { IfOk result (λ key. IsOnlyCodeOf schema.now key bytes.now) }

@@ -1,6 +1,8 @@
 ghost use Rattle.std.specs.Prelude.{◌≡◌, ◌≤◌, ◌<◌, ◌++◌, OnOk, IfOk, IfErr, IsErr, IsTrue, length, take};
 ghost use Rattle.pk_values.specs.Schemas.{fits_key};
-ghost use Rattle.key_code.specs.Shapes.{HasCode, HaveCodes, IsDay, IsNumber, IsTruth};
+ghost use Rattle.pk_values.specs.Shapes.{IsDay, IsFlag, IsNumber};
+ghost use Rattle.fixed_code.specs.NumberCode.{FitsBytes};
+ghost use Rattle.key_code.specs.Shapes.{HasCode, HaveCodes};
 ghost use Rattle.key_code.specs.KeyCode.{IsInOrder, IsOnlyCodeOf, cell_code, cells_code, day_code, key_code, numeric_code, text_code, truth_code};
 ghost use Rattle.key_code.specs.Faults.{TellsLength};
 
@@ -12,7 +14,7 @@ use pk_values::{Column, Key, Kind, Schema, Value, by_kind};
 use std::alloc::{AllocError, Global};
 
 fn push_truth(out: &mut Vec<u8>, value: &Value) -> Result<(), AllocError>
-    requires { IsTruth value.now }
+    requires { IsFlag value.now }
     ensures { OnOk result (out.new.items ≡ out.old.items ++ truth_code value.now) }
 {
     match value {
@@ -24,7 +26,7 @@ fn push_truth(out: &mut Vec<u8>, value: &Value) -> Result<(), AllocError>
 fn push_number<const W: usize>(out: &mut Vec<u8>, value: &Value) -> Result<(), AllocError>
     requires low { 1 ≤ W }
     requires high { W ≤ 16 }
-    requires number { IsNumber W value.now }
+    requires number { IsNumber (FitsBytes W) value.now }
     ensures { OnOk result (out.new.items ≡ out.old.items ++ numeric_code W value.now) }
 {
     match value {
@@ -34,7 +36,7 @@ fn push_number<const W: usize>(out: &mut Vec<u8>, value: &Value) -> Result<(), A
 }
 
 fn push_day(out: &mut Vec<u8>, value: &Value) -> Result<(), AllocError>
-    requires { IsDay value.now }
+    requires { IsDay (FitsBytes 4) value.now }
     ensures { OnOk result (out.new.items ≡ out.old.items ++ day_code value.now) }
 {
     match value {
@@ -86,8 +88,8 @@ fn code_of(alloc: Global, columns: &[Column], key: &[Value]) -> Result<Vec<u8>, 
 /// is, and in an earlier one with each byte 00 as 00 01 and with 00 00 at its end.
 ///
 /// # Errors
-/// `TooLong` exactly where the code is longer than 128 bytes; it tells that length. `Memory` where
-/// memory ran out.
+/// `TooLong` where the code is longer than 128 bytes, and nowhere else; it tells that length.
+/// `Memory` where memory ran out, which may come in place of either answer.
 pub fn encode(alloc: Global, schema: &Schema, key: &Key) -> Result<KeyBytes, KeyFault>
     requires { IsTrue (fits_key schema.now key.now) }
     ensures code { IfOk result (λ code. code ≡ key_code schema.now key.now) }

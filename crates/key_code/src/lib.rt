@@ -9,6 +9,3 @@ mod faults;
 pub use decoding::decode;
 pub use encoding::encode;
 pub use faults::{DecodeFault, KeyFault};
-
-#[cfg(test)]
-mod tests;

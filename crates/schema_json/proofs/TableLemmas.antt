@@ -1,5 +1,5 @@
 -- What the steps of reading a table give, in the words of `Tables`.
-use Rattle.std.proofs.Common.{◌≡◌, ℕ, suc, ◌+◌, ◌<◌, List, [], ◌∷◌, ◌++◌, length, drop, get_or, Some, None, Option, Result, Ok, Err, refl, sym, ap, ◌∙◌, append_assoc, append-nil, inl, inr, add-one}
+use Rattle.std.proofs.Common.{◌≡◌, ℕ, suc, ◌+◌, ◌<◌, List, [], ◌∷◌, ◌++◌, length, drop, get_or, Some, None, Result, Ok, Err, refl, sym, ap, ◌∙◌, append_assoc, append-nil, inl, inr, add-one}
 use Rattle.std.specs.Prelude.{IsUtf8, String, codes, nat_eq}
 use Rattle.std.specs.declared.alloc.Global.{Global}
 use Rattle.std.specs.Str.{is_utf8}
@@ -12,6 +12,7 @@ use Rattle.serde_json.specs.Read.{read}
 use Rattle.serde_json.specs.View.{items_view, members_view, view}
 use Rattle.serde_json.specs.declared.value.Value.{Value}
 use Rattle.pk_values.specs.declared.cells.Column.{Column}
+use Rattle.schema_json.specs.declared.columns.ColumnShape.{ColumnShape}
 use Rattle.schema_json.specs.declared.tables.TableFault.{TableFault}
 use Rattle.schema_json.specs.Tables.{json_value, member_count, column_of, columns_of, column_before, has_column_members, has_members, one_if_there}
 
@@ -40,7 +41,7 @@ behind cs (Err fault) = Err fault
 pub behind-nil : (cs : List Column) → behind cs (Ok []) ≡ Ok cs
 behind-nil cs = ap Ok (append-nil cs)
 
-behind-column_before : (i : ℕ) (cs : List Column) (c : Column) (later : Result (List Column) TableFault) → behind cs (column_before i (Some c) later) ≡ behind (cs ++ c ∷ []) later
+behind-column_before : (i : ℕ) (cs : List Column) (c : Column) (later : Result (List Column) TableFault) → behind cs (column_before i (Ok c) later) ≡ behind (cs ++ c ∷ []) later
 behind-column_before i cs c (Ok ds) = ap Ok (sym (append_assoc cs (c ∷ []) ds))
 behind-column_before i cs c (Err fault) = refl
 
@@ -50,8 +51,8 @@ at_item n i vs x within is =
     ap (λ (ws : List Value). columns_of n (items_view ws)) first
 
 -- one more column has been read
-pub one_more : (n i : ℕ) (vs : List Value) (x : Value) (cs : List Column) (c : Column) (whole : Result (List Column) TableFault) → i < length vs → x ≡ get_or vs i x → column_of (view x) ≡ Some c
+pub one_more : (n i : ℕ) (vs : List Value) (x : Value) (cs : List Column) (c : Column) (whole : Result (List Column) TableFault) → i < length vs → x ≡ get_or vs i x → column_of (view x) ≡ Ok c
     → whole ≡ behind cs (columns_of n (items_view (drop i vs))) → whole ≡ behind (cs ++ c ∷ []) (columns_of (n + 1) (items_view (drop (i + 1) vs)))
 one_more n i vs x cs c whole within is column h =
-    rw (add-one i) (h ∙ ap (behind cs) (at_item n i vs x within is ∙ ap (λ (o : Option Column). column_before n o (columns_of (n + 1) (items_view (drop (suc i) vs)))) column)
+    rw (add-one i) (h ∙ ap (behind cs) (at_item n i vs x within is ∙ ap (λ (o : Result Column ColumnShape). column_before n o (columns_of (n + 1) (items_view (drop (suc i) vs)))) column)
     ∙ behind-column_before n cs c (columns_of (n + 1) (items_view (drop (suc i) vs))))

@@ -1,5 +1,5 @@
 -- What table a JSON text describes, and its first fault.
-use Rattle.std.specs.Prelude.{ℕ, suc, ◌+◌, ◌==◌, min, List, [], ◌∷◌, codes, Bool as Truth, false, if◌then◌else◌, Option, Some, None, option_map, option_and_then, Result, Ok, Err}
+use Rattle.std.specs.Prelude.{◌≡◌, ℕ, suc, ◌+◌, ◌==◌, min, List, [], ◌∷◌, codes, Bool as Truth, false, if◌then◌else◌, Option, Some, None, option_map, option_and_then, Result, Ok, Err, ⊤}
 use Rattle.std.specs.Option.{option_map_or}
 use Rattle.std.specs.Str.{is_utf8}
 use Rattle.serde_json.specs.Data.{Data, null, boolean, number, string, array, object, Items, no_items, item, Members, no_members, member}
@@ -13,8 +13,13 @@ use Rattle.pk_values.specs.declared.cells.Value.TheVariants.{Null}
 use Rattle.pk_values.specs.declared.schemas.SchemaFault.{SchemaFault}
 use Rattle.pk_values.specs.Schemas.{Layout, schema_fault}
 use Rattle.schema_json.specs.TypeNames.{if_u32, kind_named}
+use Rattle.schema_json.specs.declared.columns.ColumnFault.{ColumnFault}
+use Rattle.schema_json.specs.declared.columns.ColumnFault.TheVariants as column_fault
+use Rattle.schema_json.specs.declared.columns.ColumnShape.{ColumnShape}
+use Rattle.schema_json.specs.declared.columns.ColumnShape.TheVariants as shape
 use Rattle.schema_json.specs.declared.tables.TableFault.{TableFault}
-use Rattle.schema_json.specs.declared.tables.TableFault.TheVariants.{NotJson, Shape, Bad}
+use Rattle.schema_json.specs.declared.tables.TableFault.TheVariants.{NotJson, Shape, Column as AtColumn, Bad}
+use Rattle.schema_json.specs.declared.tables.TableShape.TheVariants as whole
 
 -- the value of a text that is JSON
 abbrev pub json_value : List ℕ → Option Data
@@ -66,19 +71,28 @@ default_as kind (Some d) = option_map Some (default_value kind d)
 abbrev pub default_in : Kind → Data → Option (Option Value)
 default_in kind d = default_as kind (get (codes "default") d)
 
--- `name` and `type` are there, and no other members than `nullable` and `default`
+-- an object of two members beside `nullable` and `default`; that the two are `name` and `type` is seen where they are read
 abbrev pub has_column_members : Data → Truth
 has_column_members d = has_members (2 + one_if_there (get (codes "nullable") d) + one_if_there (get (codes "default") d)) d
 
-abbrev pub column_from : Data → Option (List ℕ) → Option Kind → Option Truth → Option Column
-column_from d None kind nullable = None
-column_from d (Some name) None nullable = None
-column_from d (Some name) (Some kind) None = None
-column_from d (Some name) (Some kind) (Some nullable) = option_map (λ default. record { name = name; kind = kind; nullable = nullable; default = default }) (default_in kind d)
+abbrev pub column_with : List ℕ → Kind → Truth → Option (Option Value) → Result Column ColumnShape
+column_with name kind nullable None = Err shape.Default
+column_with name kind nullable (Some default) = Ok (record { name = name; kind = kind; nullable = nullable; default = default })
 
--- the column that an object describes
-abbrev pub column_of : Data → Option Column
-column_of d = if has_column_members d then column_from d (name_in d) (kind_in d) (nullable_in d) else None
+abbrev pub column_from : Data → Option (List ℕ) → Option Kind → Option Truth → Result Column ColumnShape
+column_from d None kind nullable = Err shape.Name
+column_from d (Some name) None nullable = Err shape.Type
+column_from d (Some name) (Some kind) None = Err shape.Nullable
+column_from d (Some name) (Some kind) (Some nullable) = column_with name kind nullable (default_in kind d)
+
+-- the column that an object describes, or what of it isn't of the form of one
+abbrev pub column_of : Data → Result Column ColumnShape
+column_of d = if has_column_members d then column_from d (name_in d) (kind_in d) (nullable_in d) else Err shape.Members
+
+-- a fault tells what isn't of the form of a column, or that memory ran out
+abbrev pub TellsShape : Result Column ColumnShape → ColumnFault → Type 0
+TellsShape column (column_fault.Shape told) = column ≡ Err told
+TellsShape column column_fault.Memory = ⊤
 
 -- ---- a table
 
@@ -87,10 +101,10 @@ abbrev pub number_told : ℕ → ℕ
 number_told i = min i 4294967295
 
 -- a column before the later ones, or the fault of column i
-abbrev pub column_before : ℕ → Option Column → Result (List Column) TableFault → Result (List Column) TableFault
-column_before i None later = Err (Shape (number_told i))
-column_before i (Some c) (Err fault) = Err fault
-column_before i (Some c) (Ok cs) = Ok (c ∷ cs)
+abbrev pub column_before : ℕ → Result Column ColumnShape → Result (List Column) TableFault → Result (List Column) TableFault
+column_before i (Err told) later = Err (AtColumn (number_told i) told)
+column_before i (Ok c) (Err fault) = Err fault
+column_before i (Ok c) (Ok cs) = Ok (c ∷ cs)
 
 -- the columns of an array, numbered from i on
 abbrev pub columns_of : ℕ → Items → Result (List Column) TableFault
@@ -116,13 +130,13 @@ schema_from (Err fault) keys = Err fault
 schema_from (Ok columns) keys = schema_unless (schema_fault columns keys) columns keys
 
 abbrev pub table_from : Option Items → Option ℕ → Result Layout TableFault
-table_from None keys = Err (Shape 0)
-table_from (Some items) None = Err (Shape 0)
+table_from None keys = Err (Shape whole.Columns)
+table_from (Some items) None = Err (Shape whole.Keys)
 table_from (Some items) (Some keys) = schema_from (columns_of 1 items) keys
 
 -- an object with exactly the members `columns` and `keys`
 abbrev pub table_in : Data → Result Layout TableFault
-table_in d = if has_members 2 d then table_from (columns_in d) (keys_in d) else Err (Shape 0)
+table_in d = if has_members 2 d then table_from (columns_in d) (keys_in d) else Err (Shape whole.Members)
 
 abbrev pub table_as : Option Data → Result Layout TableFault
 table_as None = Err NotJson

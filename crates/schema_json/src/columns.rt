@@ -1,8 +1,7 @@
-ghost use Rattle.std.specs.Prelude.{◌≡◌, Some, None, IfOk, IfErr, option_map};
-ghost use Rattle.cell_text.specs.Cells.{cell_of};
+ghost use Rattle.std.specs.Prelude.{◌≡◌, ◌↔◌, Some, None, Ok, IfOk, IfErr, IsErrOf, option_map};
 ghost use Rattle.serde_json.specs.Find.{get};
 ghost use Rattle.serde_json.specs.View.{view};
-ghost use Rattle.schema_json.specs.Tables.{column_of, default_in, default_value, has_column_members, kind_in, name_in, nullable_in, one_if_there};
+ghost use Rattle.schema_json.specs.Tables.{TellsShape, column_of, default_in, default_value, has_column_members, kind_in, name_in, nullable_in, one_if_there};
 
 use crate::type_names::kind_named;
 use cell_text::{CellFault, read_cell};
@@ -11,14 +10,33 @@ use serde_json::Value as Json;
 use std::alloc::Global;
 use thiserror::Error;
 
-/// Why a JSON value gave no column.
+/// What of a JSON value isn't of the form of a column. Of several the one that this list has first
+/// is told.
 #[derive(Clone, Copy, Debug, Drop, PartialEq, Eq, Error)]
+pub enum ColumnShape {
+    /// The value is no object, or has a member too many or too few.
+    #[error("it is not an object of `name` and `type`, with `nullable` and `default` where they are wanted")]
+    Members,
+    /// There is no `name`, or it is no text.
+    #[error("`name` is not there, or is not a text")]
+    Name,
+    /// There is no `type`, or it is no text that names a type.
+    #[error("`type` is not there, or is none of BOOLEAN, TINYINT, SMALLINT, INT, BIGINT, LARGEINT, DATE and VARCHAR(n)")]
+    Type,
+    /// `nullable` is there, and neither true nor false.
+    #[error("`nullable` is neither true nor false")]
+    Nullable,
+    /// `default` is there, and neither null nor a text that a cell of the type may be.
+    #[error("`default` is neither null nor a text that reads as a cell of the type")]
+    Default,
+}
+
+/// Why a JSON value gave no column.
+#[derive(Debug, Drop)]
 pub(crate) enum ColumnFault {
-    /// A member is missing, of another type, or not known, or a default text has no reading.
-    #[error("the value is no column")]
-    Shape,
+    /// It isn't of the form of a column.
+    Shape(ColumnShape),
     /// Memory ran out.
-    #[error("memory ran out")]
     Memory,
 }
 
@@ -65,31 +83,20 @@ fn nullable_in(value: &Json) -> Option<bool>
     }
 }
 
-fn default_text(alloc: Global, kind: &Kind, text: &[u8]) -> Result<Value, ColumnFault>
-    ensures value { IfOk result (λ value. cell_of kind.now text.now ≡ Some value) }
-    ensures shape { IfErr result (λ e. e ≡ ColumnFault.Shape → cell_of kind.now text.now ≡ None) }
-{
-    match read_cell(alloc, kind, text) {
-        Ok(value) => Ok(value),
-        Err(CellFault::BadCell) => Err(ColumnFault::Shape),
-        Err(CellFault::Memory) => Err(ColumnFault::Memory),
-    }
-}
-
-fn default_value(alloc: Global, kind: &Kind, value: &Json) -> Result<Value, ColumnFault>
+fn default_value(alloc: Global, kind: &Kind, value: &Json) -> Result<Value, CellFault>
     ensures value { IfOk result (λ v. default_value kind.now (view value.now) ≡ Some v) }
-    ensures shape { IfErr result (λ e. e ≡ ColumnFault.Shape → default_value kind.now (view value.now) ≡ None) }
+    ensures bad { IsErrOf result CellFault.BadCell ↔ (default_value kind.now (view value.now) ≡ None) }
 {
     match value {
         Json::Null => Ok(Value::Null),
-        Json::String(text) => default_text(alloc, kind, text.as_bytes()),
-        _ => Err(ColumnFault::Shape),
+        Json::String(text) => read_cell(alloc, kind, text.as_bytes()),
+        _ => Err(CellFault::BadCell),
     }
 }
 
-fn default_in(alloc: Global, kind: &Kind, value: &Json) -> Result<Option<Value>, ColumnFault>
+fn default_in(alloc: Global, kind: &Kind, value: &Json) -> Result<Option<Value>, CellFault>
     ensures value { IfOk result (λ o. default_in kind.now (view value.now) ≡ Some o) }
-    ensures shape { IfErr result (λ e. e ≡ ColumnFault.Shape → default_in kind.now (view value.now) ≡ None) }
+    ensures bad { IsErrOf result CellFault.BadCell ↔ (default_in kind.now (view value.now) ≡ None) }
 {
     match value.get("default") {
         None => Ok(None),
@@ -102,24 +109,25 @@ fn default_in(alloc: Global, kind: &Kind, value: &Json) -> Result<Option<Value>,
 
 /// The column that a JSON object describes.
 pub(crate) fn column_of(alloc: Global, value: &Json) -> Result<Column, ColumnFault>
-    ensures column { IfOk result (λ c. column_of (view value.now) ≡ Some c) }
-    ensures shape { IfErr result (λ e. e ≡ ColumnFault.Shape → column_of (view value.now) ≡ None) }
+    ensures column { IfOk result (λ c. column_of (view value.now) ≡ Ok c) }
+    ensures fault { IfErr result (TellsShape (column_of (view value.now))) }
 {
     if !has_column_members(value) {
-        return Err(ColumnFault::Shape);
+        return Err(ColumnFault::Shape(ColumnShape::Members));
     }
     let Some(name) = name_in(value) else {
-        return Err(ColumnFault::Shape);
+        return Err(ColumnFault::Shape(ColumnShape::Name));
     };
     let Some(kind) = kind_in(value) else {
-        return Err(ColumnFault::Shape);
+        return Err(ColumnFault::Shape(ColumnShape::Type));
     };
     let Some(nullable) = nullable_in(value) else {
-        return Err(ColumnFault::Shape);
+        return Err(ColumnFault::Shape(ColumnShape::Nullable));
     };
     let default = match default_in(alloc, &kind, value) {
         Ok(default) => default,
-        Err(fault) => return Err(fault),
+        Err(CellFault::BadCell) => return Err(ColumnFault::Shape(ColumnShape::Default)),
+        Err(CellFault::Memory) => return Err(ColumnFault::Memory),
     };
     match Octets::from_slice(alloc, name.as_bytes()) {
         Ok(name) => Ok(Column {

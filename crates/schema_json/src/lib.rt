@@ -5,7 +5,5 @@ mod columns;
 mod tables;
 mod type_names;
 
-pub use tables::{TableFault, read_table};
-
-#[cfg(test)]
-mod tests;
+pub use columns::ColumnShape;
+pub use tables::{TableFault, TableShape, read_table};

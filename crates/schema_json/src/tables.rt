@@ -2,22 +2,40 @@ ghost use Rattle.std.specs.Prelude.{◌≡◌, ◌≢◌, Some, None, Ok, Err, I
 ghost use Rattle.serde_json.specs.View.{items_view, view};
 ghost use Rattle.schema_json.specs.Tables.{columns_in, columns_of, has_members, json_value, keys_in, number_told, table_in, table_of};
 
-use crate::columns::{ColumnFault, column_of};
+use crate::columns::{ColumnFault, ColumnShape, column_of};
 use pk_values::{Column, Schema, SchemaFault};
 use serde_json::Value as Json;
 use std::alloc::Global;
 use thiserror::Error;
 
+/// What of a JSON value isn't of the form of a table. Of several the one that this list has first is
+/// told.
+#[derive(Clone, Copy, Debug, Drop, PartialEq, Eq, Error)]
+pub enum TableShape {
+    /// The value is no object, or hasn't exactly two members.
+    #[error("it is not an object of `columns` and `keys`, and of nothing else")]
+    Members,
+    /// There is no `columns`, or it is no array.
+    #[error("`columns` is not there, or is not an array")]
+    Columns,
+    /// There is no `keys`, or it is no integer from 0 to 4,294,967,295.
+    #[error("`keys` is not there, or is not a whole number")]
+    Keys,
+}
+
 /// Why a text describes no table. The fault that this list has first is told, and among columns
-/// of a wrong shape the first.
+/// of a wrong form that of the first.
 #[derive(Clone, Copy, Debug, Drop, PartialEq, Eq, Error)]
 pub enum TableFault {
     /// The text is no JSON.
-    #[error("the text is not JSON")]
+    #[error("the text is not JSON, which has no comment, no comma before `]` or `}}`, and no byte order mark")]
     NotJson,
-    /// The whole, at 0, or the column of this number, from 1 on, isn't of the form of a table.
-    #[error("the shape is wrong at column {0}, or of the whole where that is 0")]
-    Shape(u32),
+    /// The whole isn't of the form of a table.
+    #[error("{0}")]
+    Shape(TableShape),
+    /// The column of this number, counted from 1, isn't of the form of a column.
+    #[error("column {0}: {1}")]
+    Column(u32, ColumnShape),
     /// The columns make no schema.
     #[error("{0}")]
     Bad(SchemaFault),
@@ -93,7 +111,9 @@ fn columns_of(alloc: Global, items: &[Json]) -> Result<Vec<Column>, TableFault>
     for (i, item) in items.iter().enumerate() {
         match column_of(alloc, item) {
             Ok(column) => push_column(&mut columns, column)?,
-            Err(ColumnFault::Shape) => return Err(TableFault::Shape(number_told(i))),
+            Err(ColumnFault::Shape(shape)) => {
+                return Err(TableFault::Column(number_told(i), shape));
+            }
             Err(ColumnFault::Memory) => return Err(TableFault::Memory),
         }
     }
@@ -105,13 +125,13 @@ fn table_in(alloc: Global, value: &Json) -> Result<Schema, TableFault>
     ensures fault { IfErr result (λ e. e ≢ TableFault.Memory → table_in (view value.now) ≡ Err e) }
 {
     if !has_two_members(value) {
-        return Err(TableFault::Shape(0));
+        return Err(TableFault::Shape(TableShape::Members));
     }
     let Some(items) = columns_in(value) else {
-        return Err(TableFault::Shape(0));
+        return Err(TableFault::Shape(TableShape::Columns));
     };
     let Some(keys) = keys_in(value) else {
-        return Err(TableFault::Shape(0));
+        return Err(TableFault::Shape(TableShape::Keys));
     };
     let columns = match columns_of(alloc, items) {
         Ok(columns) => columns,
@@ -132,8 +152,8 @@ fn table_in(alloc: Global, value: &Json) -> Result<Schema, TableFault>
 /// member that stands twice the last one counts.
 ///
 /// # Errors
-/// The first of these that there is: `NotJson`, `Shape`, `Bad`. `Memory` may come in place of any
-/// answer.
+/// The first of these that there is: `NotJson`, `Shape`, `Column` of the first column that isn't
+/// one, `Bad`. `Memory` where memory ran out, which may come in place of any answer.
 pub fn read_table(alloc: Global, bytes: &[u8]) -> Result<Schema, TableFault>
     ensures table { IfOk result (λ schema. table_of bytes.now ≡ Ok schema) }
     ensures fault { IfErr result (λ e. e ≢ TableFault.Memory → table_of bytes.now ≡ Err e) }

@@ -1,6 +1,6 @@
 ghost use Rattle.cell_text.specs.Texts.{IsWritable};
 
-use crate::{CellFault, read_cell, write_cell};
+use cell_text::{CellFault, read_cell, write_cell};
 use pk_values::{Kind, Octets, Value};
 use std::alloc::{AllocError, Global};
 use std::test::Fail;

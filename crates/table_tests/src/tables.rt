@@ -1,5 +1,5 @@
-use crate::{TableFault, read_table};
 use pk_values::{Kind, SchemaFault, Value};
+use schema_json::{ColumnShape, TableFault, TableShape, read_table};
 use std::alloc::{AllocError, Global};
 
 // A table of these columns.
@@ -16,21 +16,43 @@ fn texts_that_are_no_table(rt: HostRuntime) {
         ("", TableFault::NotJson),
         (r#"{"columns":[],"keys":1"#, TableFault::NotJson),
         (r#"{"columns":[],"keys":1}]"#, TableFault::NotJson),
-        ("[]", TableFault::Shape(0)),
-        (r#"{"columns":[5]}"#, TableFault::Shape(0)),
-        (r#"{"columns":{},"keys":1}"#, TableFault::Shape(0)),
-        (r#"{"columns":[5],"keys":1,"more":1}"#, TableFault::Shape(0)),
-        (r#"{"columns":[5],"keys":1.0}"#, TableFault::Shape(0)),
-        (r#"{"columns":[5],"keys":-1}"#, TableFault::Shape(0)),
-        (r#"{"columns":[5],"keys":4294967296}"#, TableFault::Shape(0)),
-        (r#"{"columns":[5],"keys":4294967295}"#, TableFault::Shape(1)),
+        ("[]", TableFault::Shape(TableShape::Members)),
+        (r#"{"columns":[5]}"#, TableFault::Shape(TableShape::Members)),
+        (
+            r#"{"columns":{},"keys":1}"#,
+            TableFault::Shape(TableShape::Columns),
+        ),
+        (
+            r#"{"columns":[5],"keys":1,"more":1}"#,
+            TableFault::Shape(TableShape::Members),
+        ),
+        (
+            r#"{"columns":[5],"keys":1.0}"#,
+            TableFault::Shape(TableShape::Keys),
+        ),
+        (
+            r#"{"columns":[5],"keys":"1"}"#,
+            TableFault::Shape(TableShape::Keys),
+        ),
+        (
+            r#"{"columns":[5],"keys":-1}"#,
+            TableFault::Shape(TableShape::Keys),
+        ),
+        (
+            r#"{"columns":[5],"keys":4294967296}"#,
+            TableFault::Shape(TableShape::Keys),
+        ),
+        (
+            r#"{"columns":[5],"keys":4294967295}"#,
+            TableFault::Column(1, ColumnShape::Members),
+        ),
         (
             r#"{"columns":[],"keys":4294967295}"#,
             TableFault::Bad(SchemaFault::NoColumn),
         ),
         (
             r#"{"columns":[],"keys":9,"keys":true}"#,
-            TableFault::Shape(0),
+            TableFault::Shape(TableShape::Keys),
         ),
     ] {
         assert!(rt;
@@ -45,35 +67,63 @@ fn texts_that_are_no_table(rt: HostRuntime) {
 #[test]
 fn columns_of_a_wrong_shape(rt: HostRuntime) -> Result<(), AllocError> {
     let alloc = rt.alloc();
-    for column in [
-        "null",
-        r#"{"name":"v"}"#,
-        r#"{"type":"INT"}"#,
-        r#"{"name":1,"type":"INT"}"#,
-        r#"{"name":"v","type":"INT","key":true}"#,
-        r#"{"name":"v","type":"INT","nullable":null}"#,
-        r#"{"name":"v","type":"STRING"}"#,
-        r#"{"name":"v","type":"INT "}"#,
-        r#"{"name":"v","type":"VARCHAR"}"#,
-        r#"{"name":"v","type":"VARCHAR()"}"#,
-        r#"{"name":"v","type":"VARCHAR(+4)"}"#,
-        r#"{"name":"v","type":"VARCHAR(4294967296)"}"#,
-        r#"{"name":"v","type":"VARCHAR(00000000004)"}"#,
-        r#"{"name":"v","type":"INT","default":5}"#,
-        r#"{"name":"v","type":"INT","default":"x"}"#,
-        r#"{"name":"v","type":"TINYINT","default":"128"}"#,
-        r#"{"name":"v","type":"VARCHAR(2)","default":"abc"}"#,
-        r#"{"name":"v","type":"DATE","default":"2023-02-29"}"#,
+    for (column, shape) in [
+        ("null", ColumnShape::Members),
+        (r#"{"name":"v"}"#, ColumnShape::Members),
+        (r#"{"type":"INT"}"#, ColumnShape::Members),
+        (r#"{"name":"v","kind":"INT"}"#, ColumnShape::Type),
+        (r#"{"name":1,"type":"INT"}"#, ColumnShape::Name),
+        (
+            r#"{"name":"v","type":"INT","key":true}"#,
+            ColumnShape::Members,
+        ),
+        (
+            r#"{"name":"v","type":"INT","nullable":null}"#,
+            ColumnShape::Nullable,
+        ),
+        (r#"{"name":"v","type":"STRING"}"#, ColumnShape::Type),
+        (r#"{"name":"v","type":"INT "}"#, ColumnShape::Type),
+        (r#"{"name":"v","type":"VARCHAR"}"#, ColumnShape::Type),
+        (r#"{"name":"v","type":"VARCHAR()"}"#, ColumnShape::Type),
+        (r#"{"name":"v","type":"VARCHAR(+4)"}"#, ColumnShape::Type),
+        (
+            r#"{"name":"v","type":"VARCHAR(4294967296)"}"#,
+            ColumnShape::Type,
+        ),
+        (
+            r#"{"name":"v","type":"VARCHAR(00000000004)"}"#,
+            ColumnShape::Type,
+        ),
+        (
+            r#"{"name":"v","type":"INT","default":5}"#,
+            ColumnShape::Default,
+        ),
+        (
+            r#"{"name":"v","type":"INT","default":"x"}"#,
+            ColumnShape::Default,
+        ),
+        (
+            r#"{"name":"v","type":"TINYINT","default":"128"}"#,
+            ColumnShape::Default,
+        ),
+        (
+            r#"{"name":"v","type":"VARCHAR(2)","default":"abc"}"#,
+            ColumnShape::Default,
+        ),
+        (
+            r#"{"name":"v","type":"DATE","default":"2023-02-29"}"#,
+            ColumnShape::Default,
+        ),
     ] {
         let text = table(alloc, column, "0")?;
         assert!(rt;
-            read_table(alloc, text.as_bytes()).err() == Some(TableFault::Shape(1)),
+            read_table(alloc, text.as_bytes()).err() == Some(TableFault::Column(1, shape)),
             "{column}"
         );
         let columns = format!(in alloc; "{KEY},{column},5")?;
         let text = table(alloc, columns.as_str(), "0")?;
         assert!(rt;
-            read_table(alloc, text.as_bytes()).err() == Some(TableFault::Shape(2)),
+            read_table(alloc, text.as_bytes()).err() == Some(TableFault::Column(2, shape)),
             "{column}"
         );
     }
@@ -112,6 +162,29 @@ fn columns_that_make_no_schema(rt: HostRuntime) -> Result<(), AllocError> {
     let text = table(alloc, many.as_str(), "0")?;
     let told = read_table(alloc, text.as_bytes()).err();
     assert!(rt; told == Some(TableFault::Bad(SchemaFault::ManyColumns)));
+    Ok(())
+}
+
+#[test]
+fn faults_say_what_to_mend(rt: HostRuntime) -> Result<(), AllocError> {
+    let alloc = rt.alloc();
+    for (fault, line) in [
+        (
+            TableFault::Shape(TableShape::Keys),
+            "`keys` is not there, or is not a whole number",
+        ),
+        (
+            TableFault::Column(3, ColumnShape::Nullable),
+            "column 3: `nullable` is neither true nor false",
+        ),
+        (
+            TableFault::Bad(SchemaFault::SameName(1, 2)),
+            "column 2 has the name of column 1",
+        ),
+    ] {
+        let told = format!(in alloc; "{fault}")?;
+        assert_eq!(rt; told.as_str(), line);
+    }
     Ok(())
 }
 

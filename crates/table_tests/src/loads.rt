@@ -1,0 +1,177 @@
+use crate::columns::column;
+use load_csv::{LoadFault, read_load};
+use pk_model::{Load, Op};
+use pk_values::{Column, Kind, Octets, Schema, Value};
+use std::alloc::{AllocError, Global};
+use std::test::Fail;
+
+// A table of a key column `k` and another column.
+fn table(alloc: Global, kind: Kind, other: Column) -> Result<Schema, Fail> {
+    let mut columns = Vec::new(alloc);
+    columns.push(column(alloc, b"k", kind, false)?)?;
+    columns.push(other)?;
+    Ok(Schema::new(columns, 1)?)
+}
+
+// Dates `d` by numbers `k`.
+fn dates(alloc: Global) -> Result<Schema, Fail> {
+    table(alloc, Kind::Int, column(alloc, b"d", Kind::Date, false)?)
+}
+
+// Texts `v`, or NULL, by texts `k`.
+fn texts(alloc: Global) -> Result<Schema, Fail> {
+    let text = column(alloc, b"v", Kind::Varchar(4), true)?;
+    table(alloc, Kind::Varchar(200), text)
+}
+
+fn load(alloc: Global, schema: &Schema, file: &[u8]) -> Result<Load, LoadFault> {
+    if file.len() > 67_108_864 {
+        return Err(LoadFault::Memory);
+    }
+    read_load(alloc, schema, file)
+}
+
+fn text(alloc: Global, bytes: &[u8]) -> Result<Value, AllocError> {
+    Ok(Value::Text(Octets::from_slice(alloc, bytes)?))
+}
+
+// Whether a line upserts one cell at a key of one cell.
+fn is_upsert(op: &Op, told: &Value, given: &Value) -> bool {
+    match op {
+        Op::Upsert { key, cells } => {
+            key.cells.first() == Some(told) && cells.as_slice().first() == Some(given)
+        }
+        Op::Delete { .. } => false,
+    }
+}
+
+fn is_delete(op: &Op, told: &Value) -> bool {
+    match op {
+        Op::Upsert { .. } => false,
+        Op::Delete { key } => key.cells.first() == Some(told),
+    }
+}
+
+#[test]
+fn faults_of_headers(rt: HostRuntime) -> Result<(), Fail> {
+    let alloc = rt.alloc();
+    let schema = dates(alloc)?;
+    let files: [(&[u8], LoadFault); 12] = [
+        (b"", LoadFault::NoHeader),
+        (b"k,d,x\n", LoadFault::UnknownName(3)),
+        (b"x,x,k\n", LoadFault::UnknownName(1)),
+        (b"k,x,k\n", LoadFault::UnknownName(2)),
+        (b"k,k,x\n", LoadFault::NameTwice(2)),
+        (b"__op,k,__op,d\n", LoadFault::NameTwice(3)),
+        (b"d,d\n", LoadFault::NameTwice(2)),
+        (b"d,__OP\n", LoadFault::UnknownName(2)),
+        (b"__op\n", LoadFault::Missing(1)),
+        (b"d\n", LoadFault::Missing(1)),
+        (b"k\n1,2\n", LoadFault::Missing(2)),
+        (b"K,d\n", LoadFault::UnknownName(1)),
+    ];
+    for (file, fault) in &files {
+        assert_eq!(rt; load(alloc, &schema, file).err(), Some(*fault));
+    }
+    Ok(())
+}
+
+#[test]
+fn faults_of_rows(rt: HostRuntime) -> Result<(), Fail> {
+    let alloc = rt.alloc();
+    let schema = dates(alloc)?;
+    let files: [(&[u8], LoadFault); 12] = [
+        (b"k,d\n1,2023-02-28\n2,2023-02-28,x\n", LoadFault::Width(2)),
+        (b"k,d\n\\N,2023-02-28\n", LoadFault::BadCell(1, 1)),
+        (b"k,d\n1,2023-02-29\n2\n", LoadFault::BadCell(1, 2)),
+        (b"k,d,__op\n1,2023-02-28,2\n", LoadFault::BadOp(1)),
+        (b"k,d,__op\n1,2023-02-28,\n", LoadFault::BadOp(1)),
+        (b"k,d,__op\nx,2023-02-28,2\n", LoadFault::BadOp(1)),
+        (b"k,d,__op\nx,2023-02-28,2,3\n", LoadFault::Width(1)),
+        (b"d,k\n2023-02-29,x\n", LoadFault::BadCell(1, 1)),
+        (b"__op,d,k\n1,x,x\n", LoadFault::BadCell(1, 3)),
+        (b"__op,d,k\n0,x,x\n", LoadFault::BadCell(1, 2)),
+        (b"k,d\n1,\\N\n2,2023-02-28,x\n", LoadFault::BadCell(1, 2)),
+        (
+            b"k,d\n1,2023-02-28\n2147483648,2023-02-28\n3\n",
+            LoadFault::BadCell(2, 1),
+        ),
+    ];
+    for (file, fault) in &files {
+        assert_eq!(rt; load(alloc, &schema, file).err(), Some(*fault));
+    }
+    Ok(())
+}
+
+#[test]
+fn lines_of_a_file(rt: HostRuntime) -> Result<(), Fail> {
+    let alloc = rt.alloc();
+    let days = load(
+        alloc,
+        &dates(alloc)?,
+        b"d,__op,k\nx,1,+07\n2023-02-28,0,-8\n",
+    )?;
+    assert_eq!(rt; days.given.as_slice(), [1u32].as_slice());
+    let lines = days.ops.as_slice();
+    assert_eq!(rt; lines.len(), 2);
+    assert!(rt; is_delete(&lines[0], &Value::Num(7)));
+    assert!(rt; is_upsert(&lines[1], &Value::Num(-8), &Value::Day(738_944)));
+    let file = b"\xef\xbb\xbfv,k\rx\"y,a\0b\r\n\\N,\"\"\"\"\n";
+    let words = load(alloc, &texts(alloc)?, file)?;
+    let lines = words.ops.as_slice();
+    assert_eq!(rt; lines.len(), 2);
+    assert!(rt; is_upsert(&lines[0], &text(alloc, b"a\0b")?, &text(alloc, b"x\"y")?));
+    assert!(rt; is_upsert(&lines[1], &text(alloc, b"\"")?, &Value::Null));
+    Ok(())
+}
+
+// A file of a row whose key is so many letters, with these bytes after it.
+fn long_key(alloc: Global, length: usize, after: &[u8]) -> Result<Vec<u8>, AllocError> {
+    let mut file = Vec::from_slice(alloc, b"k,v\n")?;
+    for _ in 0..length {
+        file.push(b'a')?;
+    }
+    file.extend_from_slice(after)?;
+    Ok(file)
+}
+
+#[test]
+fn long_keys(rt: HostRuntime) -> Result<(), Fail> {
+    let alloc = rt.alloc();
+    let schema = texts(alloc)?;
+    let fault = |length: usize, after: &[u8]| -> Result<Option<LoadFault>, AllocError> {
+        Ok(load(alloc, &schema, &long_key(alloc, length, after)?).err())
+    };
+    assert_eq!(rt; fault(128, b",x\n")?, None);
+    assert_eq!(rt;
+        fault(129, b",x\n2\n")?,
+        Some(LoadFault::KeyTooLong(1, 129))
+    );
+    assert_eq!(rt; fault(129, b",abcde\n")?, Some(LoadFault::BadCell(1, 2)));
+    assert_eq!(rt; fault(201, b",abcde\n")?, Some(LoadFault::BadCell(1, 1)));
+    Ok(())
+}
+
+// A file of so many rows.
+fn many_rows(alloc: Global, count: u32) -> Result<Vec<u8>, AllocError> {
+    let mut file = Vec::from_slice(alloc, b"v,k\n")?;
+    for _ in 0..count {
+        file.extend_from_slice(b",k\n")?;
+    }
+    Ok(file)
+}
+
+#[test]
+fn as_many_rows_as_may_be(rt: HostRuntime) -> Result<(), Fail> {
+    let alloc = rt.alloc();
+    let schema = texts(alloc)?;
+    let mut file = many_rows(alloc, 262_144)?;
+    let full = load(alloc, &schema, &file)?;
+    assert_eq!(rt; full.ops.len(), 262_144);
+    file.extend_from_slice(b"1,2,3\n")?;
+    assert_eq!(rt;
+        load(alloc, &schema, &file).err(),
+        Some(LoadFault::ManyRows)
+    );
+    Ok(())
+}
