@@ -1,3 +1,5 @@
+pub mod FooterParts
+pub mod Lengths
 pub mod OneCell
 pub mod RunFacts
 pub mod Joined
@@ -6,3 +8,4 @@ pub mod ReadFacts
 pub mod PageFacts
 pub mod SequenceFacts
 pub mod FooterFacts
+pub mod MarkFacts

@@ -4,7 +4,7 @@ use Rattle.std.specs.Prelude.{ℤ, pos, negsuc, int_le, ◌&&◌, not, nat_eq, n
 use Rattle.std.proofs.lemmas.Bool.{and_parts, false≢true, leb-true}
 use Rattle.std.proofs.lemmas.List.{append_cancel_left, append_assoc, take_at}
 use Rattle.byteorder.specs.Endian.{big_number}
-use Rattle.byteorder.specs.Numbers.{big_number-reads_back, length-bytes_high_first}
+use Rattle.byteorder.specs.Numbers.{big_number-reads_back}
 use Rattle.fixed_code.specs.NumberCode.{FitsBytes, half, number_code}
 use Rattle.fixed_code.proofs.Codes.{only_code}
 use Rattle.std.specs.Cmp.Lexicographic.{pointwise}
@@ -15,12 +15,11 @@ use Rattle.pk_values.specs.declared.cells.Kind.TheVariants.{Boolean, TinyInt, Sm
 use Rattle.pk_values.specs.declared.cells.Value.{Value}
 use Rattle.pk_values.specs.declared.cells.Value.TheVariants.{Null, Bool, Num, Day, Text}
 use Rattle.pk_values.specs.declared.cells.Column.{Column}
-use Rattle.column_page.specs.CellBytes.{cell_bytes, day_bytes, flag_bytes, null_mark, number_bytes, text_bytes, u16_bytes, value_bytes, HasShape, IsDay, IsFlag, IsNumber, IsText}
+use Rattle.column_page.specs.CellBytes.{cell_bytes, day_bytes, flag_bytes, null_mark, number_bytes, text_bytes, u16_bytes, value_bytes, HasShape, IsShort}
+use Rattle.pk_values.specs.Shapes.{IsDay, IsFlag, IsNumber, IsText}
+use Rattle.column_page.proofs.Lengths.{length-code}
 
-pub length-code : (w : ℕ) (z : ℤ) → length (number_code w z) ≡ w
-length-code w z = length-bytes_high_first w _
-
-pub length-number : (w : ℕ) (v : Value) → IsNumber w v → length (number_bytes w v) ≡ w
+pub length-number : (w : ℕ) (v : Value) → IsNumber (FitsBytes w) v → length (number_bytes w v) ≡ w
 length-number w Null f = absurd f
 length-number w (Bool b) f = absurd f
 length-number w (Num z) f = length-code w z
@@ -34,9 +33,6 @@ same_front a b r s e h = sym (take_at a r (length b) e) ∙ ap (take (length b))
 -- a number of two bytes is known by them
 pub u16_one : (n m : ℕ) → n < 2 ^ 16 → m < 2 ^ 16 → (r s : List ℕ) → u16_bytes n ++ r ≡ u16_bytes m ++ s → n ≡ m
 u16_one n m f g r s h = sym (big_number-reads_back 2 n r f) ∙ ap (big_number 2) h ∙ big_number-reads_back 2 m s g
-
-pub length-u16 : (n : ℕ) → length (u16_bytes n) ≡ 2
-length-u16 n = length-bytes_high_first 2 n
 
 pub code_one : (w : ℕ) (y z : ℤ) → 1 ≤ w → w ≤ 16 → FitsBytes w y → FitsBytes w z → (r s : List ℕ) → number_code w y ++ r ≡ number_code w z ++ s → y ≡ z
 code_one w y z low high f g r s h =
@@ -56,7 +52,7 @@ flag_one (Bool false) (Bool true) f g r s h = cc
 flag_one (Bool true) (Bool false) f g r s h = cc
 flag_one (Bool true) (Bool true) f g r s h = refl
 
-number_one : (n : ℕ) → 1 ≤ n → n ≤ 16 → (v w : Value) → IsNumber n v → IsNumber n w → (r s : List ℕ) → number_bytes n v ++ r ≡ number_bytes n w ++ s → v ≡ w
+number_one : (n : ℕ) → 1 ≤ n → n ≤ 16 → (v w : Value) → IsNumber (FitsBytes n) v → IsNumber (FitsBytes n) w → (r s : List ℕ) → number_bytes n v ++ r ≡ number_bytes n w ++ s → v ≡ w
 number_one n low high Null w f g r s h = absurd f
 number_one n low high (Bool b) w f g r s h = absurd f
 number_one n low high (Day z) w f g r s h = absurd f
@@ -67,7 +63,7 @@ number_one n low high (Num y) (Day z) f g r s h = absurd g
 number_one n low high (Num y) (Text t) f g r s h = absurd g
 number_one n low high (Num y) (Num z) f g r s h = ap Num (code_one n y z low high f g r s h)
 
-day_one : (v w : Value) → IsDay v → IsDay w → (r s : List ℕ) → day_bytes v ++ r ≡ day_bytes w ++ s → v ≡ w
+day_one : (v w : Value) → IsDay (FitsBytes 4) v → IsDay (FitsBytes 4) w → (r s : List ℕ) → day_bytes v ++ r ≡ day_bytes w ++ s → v ≡ w
 day_one Null w f g r s h = absurd f
 day_one (Bool b) w f g r s h = absurd f
 day_one (Num z) w f g r s h = absurd f
@@ -78,7 +74,7 @@ day_one (Day y) (Num z) f g r s h = absurd g
 day_one (Day y) (Text t) f g r s h = absurd g
 day_one (Day y) (Day z) f g r s h = ap Day (code_one 4 y z (omega arith) (omega arith) f g r s h)
 
-text_one : (v w : Value) → IsText v → IsText w → (r s : List ℕ) → text_bytes v ++ r ≡ text_bytes w ++ s → v ≡ w
+text_one : (v w : Value) → IsText IsShort v → IsText IsShort w → (r s : List ℕ) → text_bytes v ++ r ≡ text_bytes w ++ s → v ≡ w
 text_one Null w f g r s h = absurd f
 text_one (Bool b) w f g r s h = absurd f
 text_one (Num z) w f g r s h = absurd f
@@ -112,7 +108,7 @@ day_fits : (z : ℤ) → IsTrue (int_le (pos 0) z && int_le z (pos 3652424)) →
 day_fits (pos n) f = let h : n ≤ 3652424 = leb-true n 3652424 (and_parts (int_le (pos 0) (pos n)) (int_le (pos n) (pos 3652424)) f).1 in omega arith
 day_fits (negsuc n) f = absurd (false≢true (and_parts (int_le (pos 0) (negsuc n)) (int_le (negsuc n) (pos 3652424)) f).0)
 
-text_fits : (n : ℕ) (t : List ℕ) → IsTrue (is_kind (Varchar n)) → IsTrue (fits_kind (Varchar n) (Text t)) → length t < 2 ^ 16
+text_fits : (n : ℕ) (t : List ℕ) → IsTrue (is_kind (Varchar n)) → IsTrue (fits_kind (Varchar n) (Text t)) → IsShort t
 text_fits n t i f =
     let short : length t ≤ n = leb-true (length t) n (and_parts (nat_le (length t) n) (not (pointwise nat_eq t null_text)) f).0 in
     let most : n ≤ 65533 = leb-true n 65533 (and_parts (nat_le 1 n) (nat_le n 65533) i).1 in

@@ -12,7 +12,8 @@ use Rattle.pk_values.specs.declared.cells.Column.{Column}
 use Rattle.column_page.specs.CellBytes.{cell_bytes, u16_bytes, NoneFirst, StandsFirst}
 use Rattle.column_page.specs.Page.{AllFit, Cell, run_bytes}
 use Rattle.column_page.specs.Reading.{AreCells, CellsThen, HaveRead, HaveRunOut, IsCellOf, RunsOf, expanded}
-use Rattle.column_page.proofs.OneCell.{cell_one, length-u16, u16_one}
+use Rattle.column_page.proofs.OneCell.{cell_one, u16_one}
+use Rattle.column_page.proofs.Lengths.{length-u16}
 
 -- ---- one cell
 

@@ -8,7 +8,8 @@ use Rattle.byteorder.specs.Numbers.{big_number-reads_back, length-bytes_high_fir
 use Rattle.fixed_code.specs.NumberCode.{FitsBytes, number_code}
 use Rattle.column_page.specs.Footers.{u32_bytes, u64_bytes, wide_bytes}
 use Rattle.column_page.specs.FooterReading.{HaveElements, SequenceThen}
-use Rattle.column_page.proofs.OneCell.{code_one, length-code}
+use Rattle.column_page.proofs.OneCell.{code_one}
+use Rattle.column_page.proofs.Lengths.{length-code}
 
 number_step : (w n m : ℕ) (bytes tail : List ℕ) → n < 256 ^ w → m < 256 ^ w → take w bytes ≡ big_bytes w n → big_bytes w m ++ tail ≡ bytes → (n ≡ m) × (drop w bytes ≡ tail)
 number_step w n m bytes tail f g front e =

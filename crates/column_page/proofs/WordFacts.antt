@@ -1,15 +1,19 @@
 -- The different cells, and their places.
-use Rattle.std.proofs.Common.{◌≡◌, ℕ, zero, suc, ◌+◌, ◌<◌, List, [], ◌∷◌, ◌++◌, length, get_or, refl, sym, ap, ◌∙◌, arith, subst, true, false, cond, inl, inr}
+use Rattle.std.proofs.Common.{◌≡◌, ℕ, zero, suc, ◌+◌, ◌*◌, ◌<◌, List, [], ◌∷◌, ◌++◌, length, get_or, refl, sym, ap, ◌∙◌, arith, subst, true, false, cond, inl, inr, take, drop, take-append-drop}
 use Rattle.std.proofs.Common.{◌≤◌}
 use Rattle.std.proofs.Math.Numerals.{add-one}
-use Rattle.std.proofs.lemmas.List.{length_push}
+use Rattle.std.specs.List.{concat}
+use Rattle.std.proofs.lemmas.List.{length-append, length_push}
 use Rattle.std.proofs.lemmas.List.Elements.{All-head, All-nil, All-push, All-tail}
 use Rattle.std.specs.Prelude.{All, Some, is_some}
 use Rattle.std.specs.Str.{bytes_eq}
 use Rattle.std.proofs.lemmas.Bool.{cases_Bool, false≢true, false_from_ne_true}
 use Rattle.std.proofs.lemmas.Slice.Eq.{bytes_eq-Decides}
-use Rattle.column_page.specs.Page.{Cell, distinct_after, is_among, place, with_word}
+use Rattle.column_page.specs.CellBytes.{u16_bytes}
+use Rattle.column_page.specs.Page.{Cell, dictionary, distinct_after, is_among, place, places, with_word}
 use Rattle.column_page.specs.Words.{found}
+use Rattle.column_page.proofs.Joined.{concat_push}
+use Rattle.column_page.proofs.Lengths.{length-u16}
 
 same_cell : (c : Cell) → bytes_eq c c ≡ true
 same_cell c = (bytes_eq-Decides c c).1 refl
@@ -141,3 +145,38 @@ distinct_all P seen (c ∷ cells) s all = distinct_all P (with_word c seen) cell
 -- what holds of each cell holds of each word
 pub words_all : (P : Cell → Type 0) (cells : List Cell) → All P cells → All P (distinct_after [] cells)
 words_all P cells all = distinct_all P [] cells (All-nil P) all
+
+-- ---- how long the dictionary form is
+
+distinct_from : (seen xs ys : List Cell) → distinct_after seen (xs ++ ys) ≡ distinct_after (distinct_after seen xs) ys
+distinct_from seen [] ys = refl
+distinct_from seen (x ∷ xs) ys = distinct_from (with_word x seen) xs ys
+
+concat_with : (c : Cell) (ws : List Cell) → length (concat ws) ≤ length (concat (with_word c ws))
+concat_with c ws = elim (cases_Bool (is_among c ws)) [
+  | inl a ↦ rw a (omega arith)
+  | inr n ↦ rw n (omega (arith, ap length (concat_push ws c), length-append (concat ws) c))
+]
+
+concat_grows : (seen cells : List Cell) → length (concat seen) ≤ length (concat (distinct_after seen cells))
+concat_grows seen [] = omega arith
+concat_grows seen (c ∷ cells) = let a = concat_with c seen in let b = concat_grows (with_word c seen) cells in omega arith
+
+length-places : (words cells : List Cell) → length (places words cells) ≡ 2 * length cells
+length-places words [] = refl
+length-places words (c ∷ cells) = omega (arith, length-append (u16_bytes (place c words)) (places words cells), length-u16 (place c words), length-places words cells)
+
+length-dictionary : (cells : List Cell) → length (dictionary cells) ≡ 3 + 2 * length cells + length (concat (distinct_after [] cells))
+length-dictionary cells =
+    let words = distinct_after [] cells in
+    let head = 2 ∷ u16_bytes (length words) in
+    omega (arith, length-append (head ++ concat words) (places words cells), length-append head (concat words), length-u16 (length words), length-places words cells)
+
+-- the words of the first cells already make the form as long
+pub dictionary_long : (cells : List Cell) (i most : ℕ) → most ≤ 3 + 2 * length cells + length (concat (distinct_after [] (take i cells))) → most ≤ length (dictionary cells)
+dictionary_long cells i most h =
+    let words = distinct_after [] cells in
+    let seen = distinct_after [] (take i cells) in
+    let whole : distinct_after seen (drop i cells) ≡ words = sym (distinct_from [] (take i cells) (drop i cells)) ∙ ap (distinct_after []) (take-append-drop i cells) in
+    let grown = concat_grows seen (drop i cells) in
+    omega (arith, length-dictionary cells, ap (λ (ws : List Cell). length (concat ws)) whole)

@@ -1,5 +1,5 @@
 -- The bytes of a cell in a page.
-use Rattle.std.specs.Prelude.{◌≡◌, ℕ, ◌<◌, ◌≤◌, ◌^◌, List, [], ◌∷◌, ◌++◌, length, take, Bool as Truth, true, false, ⊤}
+use Rattle.std.specs.Prelude.{◌≡◌, ℕ, ◌<◌, ◌≤◌, ◌^◌, List, [], ◌∷◌, ◌++◌, length, take, Bool as Truth, true, false}
 use Rattle.byteorder.specs.Endian.{big_bytes}
 use Rattle.fixed_code.specs.NumberCode.{FitsBytes, number_code}
 use Rattle.pk_values.specs.declared.cells.Kind.{Kind}
@@ -7,6 +7,7 @@ use Rattle.pk_values.specs.declared.cells.Kind.TheVariants.{Boolean, TinyInt, Sm
 use Rattle.pk_values.specs.declared.cells.Value.{Value}
 use Rattle.pk_values.specs.declared.cells.Value.TheVariants.{Null, Bool, Num, Day, Text}
 use Rattle.pk_values.specs.declared.cells.Column.{Column}
+use Rattle.pk_values.specs.Shapes.{IsDay, IsFlag, IsNumber, IsText}
 
 -- a number in two bytes, the high one first
 abbrev pub u16_bytes : ℕ → List ℕ
@@ -54,33 +55,21 @@ null_mark true (Text t) = 1 ∷ []
 abbrev pub cell_bytes : Column → Value → List ℕ
 cell_bytes c v = null_mark c.nullable v ++ value_bytes c.kind v
 
--- ---- values of a shape, whose bytes can be told apart
+-- ---- values of a type, whose bytes can be told apart
 
-abbrev pub IsFlag : Value → Type 0
-IsFlag (Bool b) = ⊤
-IsFlag _ = ⊥
-
-abbrev pub IsNumber : ℕ → Value → Type 0
-IsNumber w (Num z) = FitsBytes w z
-IsNumber w _ = ⊥
-
-abbrev pub IsDay : Value → Type 0
-IsDay (Day z) = FitsBytes 4 z
-IsDay _ = ⊥
-
-abbrev pub IsText : Value → Type 0
-IsText (Text t) = length t < 2 ^ 16
-IsText _ = ⊥
+-- a text whose length has two bytes
+abbrev pub IsShort : List ℕ → Type 0
+IsShort t = length t < 2 ^ 16
 
 abbrev pub HasShape : Kind → Value → Type 0
 HasShape Boolean v = IsFlag v
-HasShape TinyInt v = IsNumber 1 v
-HasShape SmallInt v = IsNumber 2 v
-HasShape Int v = IsNumber 4 v
-HasShape BigInt v = IsNumber 8 v
-HasShape LargeInt v = IsNumber 16 v
-HasShape Date v = IsDay v
-HasShape (Varchar n) v = IsText v
+HasShape TinyInt v = IsNumber (FitsBytes 1) v
+HasShape SmallInt v = IsNumber (FitsBytes 2) v
+HasShape Int v = IsNumber (FitsBytes 4) v
+HasShape BigInt v = IsNumber (FitsBytes 8) v
+HasShape LargeInt v = IsNumber (FitsBytes 16) v
+HasShape Date v = IsDay (FitsBytes 4) v
+HasShape (Varchar n) v = IsText IsShort v
 
 -- the code of a value is so many bytes at the front
 pub record StandsFirst (code : Value → List ℕ) (value : Value) (len : ℕ) (bytes : List ℕ) : Type 0 where

@@ -1,7 +1,7 @@
 -- The footer of a segment: what it tells of each block, and its bytes.
-use Rattle.std.specs.Prelude.{ℕ, ℤ, pos, ◌+◌, ◌-◌, min, List, [], ◌∷◌, ◌++◌, length, Bool as Truth, true, false, ◌&&◌, ◌||◌, ◌==◌, nat_le, int_le, Option, Some, None, slice_get, option_and_then}
+use Rattle.std.specs.Prelude.{◌≡◌, ◌≤ℤ◌, All, Contains, ℕ, ℤ, pos, ◌+◌, ◌-◌, min, List, [], ◌∷◌, ◌++◌, length, Bool as Truth, true, false, ◌&&◌, ◌||◌, ◌==◌, nat_le, int_le, Option, Some, None, slice_get, option_and_then}
 use Rattle.std.specs.Int.{int_max, int_min}
-use Rattle.std.specs.List.{flat_map, list_all}
+use Rattle.std.specs.List.{flat_map, filter_map, list_all}
 use Rattle.pk_values.specs.declared.cells.Value.{Value}
 use Rattle.pk_values.specs.declared.cells.Value.TheVariants.{Null, Bool, Num, Day, Text}
 use Rattle.byteorder.specs.Endian.{big_bytes}
@@ -112,3 +112,19 @@ with_cell v m = record { nulls = is_null v || m.nulls; span = with_number (cell_
 abbrev pub mark_of : List Value → ColumnMark
 mark_of [] = record { nulls = false; span = None }
 mark_of (v ∷ cells) = with_cell v (mark_of cells)
+
+-- the numbers of cells, in their order
+abbrev pub numbers : List Value → List ℤ
+numbers cells = filter_map cell_number cells
+
+-- the least and the greatest of some numbers
+pub record Bounds (zs : List ℤ) (s : Span) : Type 0 where
+  pub least_is_below : All (λ z. s.least ≤ℤ z) zs
+  pub greatest_is_above : All (λ z. z ≤ℤ s.greatest) zs
+  pub least_is_one : Contains zs s.least
+  pub greatest_is_one : Contains zs s.greatest
+
+-- the bounds of the numbers, or None where there are no numbers
+abbrev pub IsSpanOf : List ℤ → Option Span → Type 0
+IsSpanOf zs None = zs ≡ []
+IsSpanOf zs (Some s) = Bounds zs s

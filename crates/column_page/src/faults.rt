@@ -6,6 +6,7 @@ pub enum PageFault {
     /// No cells of the column have this page.
     #[error("the bytes are no page of the column")]
     NotAPage,
+    /// There isn't the memory to read them.
     #[error("memory ran out")]
     Memory,
 }
@@ -16,6 +17,7 @@ pub enum FooterFault {
     /// The bytes are the footer of no segment.
     #[error("the bytes are no footer of a segment")]
     NotAFooter,
+    /// There isn't the memory to read them.
     #[error("memory ran out")]
     Memory,
 }

@@ -1,4 +1,5 @@
 use pk_values::Items;
+use std::alloc::{AllocError, Global};
 
 /// The least and the greatest of the cells of a block's column that are not NULL, as numbers: a
 /// BOOLEAN is 0 or 1, and a DATE is its day.
@@ -17,17 +18,36 @@ pub struct ColumnMark {
     pub span: Option<Span>,
 }
 
-/// What a footer tells of a block: its place in the file, its length without its digest, its rows
-/// and its column marks.
+/// What a footer tells of a block.
 #[derive(Debug, Drop)]
 pub struct BlockMark {
+    /// The place of its first byte in the file, counted from 0.
     pub place: u64,
+    /// How many bytes it has, but for the 32 of its digest.
     pub length: u32,
+    /// How many rows it has.
     pub rows: u32,
+    /// What is told of each column, in the order of the table.
     pub marks: Items<ColumnMark>,
 }
 
-/// The footer of a segment.
+impl BlockMark {
+    ghost use Rattle.std.specs.Prelude.{◌≡◌, IfOk};
+
+    fn copy(&self, alloc: Global) -> Result<BlockMark, AllocError>
+        ensures { IfOk result (λ copy. copy ≡ self.now) }
+    {
+        let marks = Vec::from_slice(alloc, self.marks.as_slice())?;
+        Ok(BlockMark {
+            place: self.place,
+            length: self.length,
+            rows: self.rows,
+            marks: Items::from_vec(marks),
+        })
+    }
+}
+
+/// The footer of a segment: how many columns and rows it has, and what is told of each block.
 #[derive(Debug, Drop)]
 pub struct Footer {
     pub(crate) columns: u32,
@@ -36,10 +56,11 @@ pub struct Footer {
 }
 
 impl Footer {
-    ghost use Rattle.std.specs.Prelude.{◌≡◌, ◌<◌, ◌^◌, length, slice_get, OnSome, IfSome};
-    ghost use Rattle.column_page.specs.Footers.{footer_body, is_footer, mark_at, nulls_in, span_in};
+    ghost use Rattle.std.specs.Prelude.{◌≡◌, ◌<◌, ◌^◌, length, slice_get, IfOk};
+    ghost use Rattle.column_page.specs.Footers.{mark_at, nulls_in, span_in};
 
-    /// The footer of so many columns and rows in these blocks.
+    /// The footer of so many columns and rows in these blocks. Nothing is tested: `read_footer` gives
+    /// only footers of segments.
     pub fn new(columns: u32, rows: u32, blocks: Items<BlockMark>) -> Footer
         ensures columns { result.columns ≡ columns }
         ensures rows { result.rows ≡ rows }
@@ -82,8 +103,9 @@ impl Footer {
         &self.blocks.as_slice()[b as usize]
     }
 
-    /// The least and the greatest of a column in block `b`; None for a column that the file does
-    /// not have.
+    /// The least and the greatest of the cells of a column in block `b` that aren't NULL, both
+    /// counted from 0. None in a VARCHAR column, where each cell is NULL, and for a column that the
+    /// file does not have.
     pub fn span(&self, b: u32, column: u32) -> Option<Span>
         requires { b < length self.now.blocks }
         ensures { result ≡ span_in (mark_at self.now b column) }
@@ -94,7 +116,8 @@ impl Footer {
         }
     }
 
-    /// Whether block `b` has a NULL in a column; true for a column that the file does not have.
+    /// Whether block `b` has a NULL in a column, both counted from 0; true for a column that the file
+    /// does not have.
     pub fn nulls(&self, b: u32, column: u32) -> bool
         requires { b < length self.now.blocks }
         ensures { result ≡ nulls_in (mark_at self.now b column) }
@@ -103,5 +126,15 @@ impl Footer {
             Some(mark) => mark.nulls,
             None => true,
         }
+    }
+    /// A footer equal to this one.
+    pub fn copy(&self, alloc: Global) -> Result<Footer, AllocError>
+        ensures { IfOk result (λ copy. copy ≡ self.now) }
+    {
+        let mut blocks = Vec::with_capacity(alloc, self.blocks.len())?;
+        for block in self.blocks.as_slice() {
+            blocks.push(block.copy(alloc)?)?;
+        }
+        Ok(Footer::new(self.columns, self.rows, Items::from_vec(blocks)))
     }
 }

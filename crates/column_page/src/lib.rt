@@ -7,6 +7,7 @@ mod footer_fits;
 mod footer_reads;
 mod footer_writes;
 mod footers;
+mod laws;
 mod marks;
 mod pages;
 mod plain;
@@ -19,9 +20,7 @@ mod words;
 pub use faults::{FooterFault, PageFault};
 pub use footer_writes::write_footer;
 pub use footers::{BlockMark, ColumnMark, Footer, Span};
+pub use laws::column_marks;
 pub use marks::mark_of;
 pub use pages::{all_fit, decode_page, encode_page};
 pub use whole_footers::read_footer;
-
-#[cfg(test)]
-mod tests;

@@ -2,14 +2,14 @@ ghost use Rattle.std.specs.Prelude.{◌≡◌, ◌≤◌, ◌<◌, ◌^◌, List
 ghost use Rattle.pk_values.specs.Schemas.{is_kind};
 ghost use Rattle.pk_values.specs.declared.cells.Value.{Value};
 ghost use Rattle.column_page.specs.CellBytes.{cell_bytes};
-ghost use Rattle.column_page.specs.Page.{page, page_of, shorter, AllFit};
+ghost use Rattle.column_page.specs.Page.{dictionary, page, page_of, shorter, AllFit};
 ghost use Rattle.column_page.specs.Reading.{AreCells, NoCells, OnlyCells};
 
 use crate::decode::{read_dictionary, read_plain, read_runs};
 use crate::faults::PageFault;
 use crate::plain::{cell_texts, plain_page};
 use crate::runs::run_page;
-use crate::words::dictionary_page;
+use crate::words::dictionary_within;
 use pk_values::{Column, Octets, Value};
 use std::alloc::{AllocError, Global};
 
@@ -31,6 +31,17 @@ fn shorter_of(first: Vec<u8>, second: Vec<u8>) -> Vec<u8>
     }
 }
 
+// The shorter of a form of the cells and their dictionary form.
+fn with_dictionary(alloc: Global, first: Vec<u8>, texts: &[Octets]) -> Result<Vec<u8>, AllocError>
+    requires { length texts.now < 2 ^ 16 }
+    ensures { IfOk result (λ page. page.items ≡ shorter first.items (dictionary texts.now)) }
+{
+    match dictionary_within(alloc, texts, first.len())? {
+        Some(second) => Ok(shorter_of(first, second)),
+        None => Ok(first),
+    }
+}
+
 /// The page of 1 to 1,024 cells that fit the column: the shortest of the plain form (`00`, then each
 /// cell), the run-length form (`01`, the number of runs, then each run's length and its cell) and
 /// the dictionary form (`02`, the number of different cells, these cells in the order of their first
@@ -46,8 +57,8 @@ pub fn encode_page(alloc: Global, column: &Column, cells: &[Value]) -> Result<Oc
     let texts = cell_texts(alloc, column, cells)?;
     let plain = plain_page(alloc, &texts)?;
     let runs = run_page(alloc, &texts)?;
-    let words = dictionary_page(alloc, &texts)?;
-    Ok(Octets::from_vec(shorter_of(shorter_of(plain, runs), words)))
+    let page = with_dictionary(alloc, shorter_of(plain, runs), &texts)?;
+    Ok(Octets::from_vec(page))
 }
 
 // The cells that the bytes are the page of, if any cells have this page.

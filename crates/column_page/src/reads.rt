@@ -2,7 +2,9 @@ ghost use Rattle.std.specs.Prelude.{◌≡◌, ◌≤◌, ◌<◌, ◌^◌, ◌+
 ghost use Rattle.byteorder.specs.Endian.{big_number};
 ghost use Rattle.pk_values.specs.Fits.{fits, fits_kind};
 ghost use Rattle.pk_values.specs.Schemas.{is_kind};
-ghost use Rattle.column_page.specs.CellBytes.{cell_bytes, day_bytes, flag_bytes, number_bytes, text_bytes, u16_bytes, value_bytes, HasShape, IsDay, IsFlag, IsNumber, IsText, NoneFirst, StandsFirst};
+ghost use Rattle.column_page.specs.CellBytes.{cell_bytes, day_bytes, flag_bytes, number_bytes, text_bytes, u16_bytes, value_bytes, HasShape, IsShort, NoneFirst, StandsFirst};
+ghost use Rattle.pk_values.specs.Shapes.{IsDay, IsFlag, IsNumber, IsText};
+ghost use Rattle.fixed_code.specs.NumberCode.{FitsBytes};
 
 use crate::faults::PageFault;
 use byteorder::{BigEndian, ByteOrder};
@@ -36,9 +38,9 @@ fn read_flag(bytes: &[u8]) -> Result<ReadValue, PageFault>
 fn read_number<const W: usize>(bytes: &[u8]) -> Result<ReadValue, PageFault>
     requires low { 1 ≤ W }
     requires high { W ≤ 16 }
-    ensures shape { IfOk result (λ r. IsNumber W r.value) }
+    ensures shape { IfOk result (λ r. IsNumber (FitsBytes W) r.value) }
     ensures first { IfOk result (λ r. StandsFirst (number_bytes W) r.value r.len bytes.now) }
-    ensures none { IfErr result (λ e. e ≡ PageFault.NotAPage → NoneFirst (IsNumber W) (number_bytes W) bytes.now) }
+    ensures none { IfErr result (λ e. e ≡ PageFault.NotAPage → NoneFirst (IsNumber (FitsBytes W)) (number_bytes W) bytes.now) }
 {
     match bytes.first_chunk::<W>() {
         Some(code) => Ok(ReadValue {
@@ -50,9 +52,9 @@ fn read_number<const W: usize>(bytes: &[u8]) -> Result<ReadValue, PageFault>
 }
 
 fn read_day(bytes: &[u8]) -> Result<ReadValue, PageFault>
-    ensures shape { IfOk result (λ r. IsDay r.value) }
+    ensures shape { IfOk result (λ r. IsDay (FitsBytes 4) r.value) }
     ensures first { IfOk result (λ r. StandsFirst day_bytes r.value r.len bytes.now) }
-    ensures none { IfErr result (λ e. e ≡ PageFault.NotAPage → NoneFirst IsDay day_bytes bytes.now) }
+    ensures none { IfErr result (λ e. e ≡ PageFault.NotAPage → NoneFirst (IsDay (FitsBytes 4)) day_bytes bytes.now) }
 {
     match bytes.first_chunk::<4>() {
         Some(code) => Ok(ReadValue {
@@ -75,9 +77,9 @@ pub fn read_u16(bytes: &[u8]) -> Option<u16>
 }
 
 fn read_text(alloc: Global, bytes: &[u8]) -> Result<ReadValue, PageFault>
-    ensures shape { IfOk result (λ r. IsText r.value) }
+    ensures shape { IfOk result (λ r. IsText IsShort r.value) }
     ensures first { IfOk result (λ r. StandsFirst text_bytes r.value r.len bytes.now) }
-    ensures none { IfErr result (λ e. e ≡ PageFault.NotAPage → NoneFirst IsText text_bytes bytes.now) }
+    ensures none { IfErr result (λ e. e ≡ PageFault.NotAPage → NoneFirst (IsText IsShort) text_bytes bytes.now) }
 {
     let Some(number) = read_u16(bytes) else {
         return Err(PageFault::NotAPage);

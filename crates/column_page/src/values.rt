@@ -1,7 +1,9 @@
 ghost use Rattle.std.specs.Prelude.{◌≡◌, ◌≤◌, ◌<◌, ◌^◌, ◌++◌, OnOk, IfOk, OnErr, IsTrue, IsErrOf, length};
 ghost use Rattle.pk_values.specs.Fits.{fits, fits_kind};
 ghost use Rattle.pk_values.specs.Schemas.{is_kind};
-ghost use Rattle.column_page.specs.CellBytes.{cell_bytes, day_bytes, flag_bytes, null_mark, number_bytes, text_bytes, u16_bytes, value_bytes, HasShape, IsDay, IsFlag, IsNumber, IsText};
+ghost use Rattle.column_page.specs.CellBytes.{cell_bytes, day_bytes, flag_bytes, null_mark, number_bytes, text_bytes, u16_bytes, value_bytes, HasShape, IsShort};
+ghost use Rattle.pk_values.specs.Shapes.{IsDay, IsFlag, IsNumber, IsText};
+ghost use Rattle.fixed_code.specs.NumberCode.{FitsBytes};
 
 use byteorder::{BigEndian, ByteOrder};
 use fixed_code::put;
@@ -21,7 +23,7 @@ fn put_flag(out: &mut Vec<u8>, value: &Value) -> Result<(), AllocError>
 fn put_number<const W: usize>(out: &mut Vec<u8>, value: &Value) -> Result<(), AllocError>
     requires low { 1 ≤ W }
     requires high { W ≤ 16 }
-    requires number { IsNumber W value.now }
+    requires number { IsNumber (FitsBytes W) value.now }
     ensures { OnOk result (out.new.items ≡ out.old.items ++ number_bytes W value.now) }
 {
     match value {
@@ -31,7 +33,7 @@ fn put_number<const W: usize>(out: &mut Vec<u8>, value: &Value) -> Result<(), Al
 }
 
 fn put_day(out: &mut Vec<u8>, value: &Value) -> Result<(), AllocError>
-    requires { IsDay value.now }
+    requires { IsDay (FitsBytes 4) value.now }
     ensures { OnOk result (out.new.items ≡ out.old.items ++ day_bytes value.now) }
 {
     match value {
@@ -50,7 +52,7 @@ pub fn put_u16(out: &mut Vec<u8>, number: u16) -> Result<(), AllocError>
 }
 
 fn put_text(out: &mut Vec<u8>, value: &Value) -> Result<(), AllocError>
-    requires { IsText value.now }
+    requires { IsText IsShort value.now }
     ensures { OnOk result (out.new.items ≡ out.old.items ++ text_bytes value.now) }
 {
     match value {

@@ -1,4 +1,4 @@
-ghost use Rattle.std.specs.Prelude.{◌≡◌, ◌+◌, ◌≤◌, ◌<◌, ◌^◌, [], ◌++◌, List, ℕ, OnOk, IfOk, IsTrue, length};
+ghost use Rattle.std.specs.Prelude.{◌≡◌, ◌+◌, ◌≤◌, ◌<◌, ◌^◌, [], ◌++◌, List, ℕ, OnOk, IfOk, IfNone, IfSome, IsTrue, length};
 ghost use Rattle.column_page.specs.Page.{dictionary, distinct_after, is_among, place, with_word, Cell};
 ghost use Rattle.column_page.specs.Words.{Knows};
 
@@ -52,23 +52,54 @@ impl<'a> Words<'a> {
     }
 }
 
-fn words_of(alloc: Global, cells: &[Octets]) -> Result<Words<'_>, AllocError>
+// The different cells, or none where the dictionary form has `most` bytes or more.
+fn words_within(
+    alloc: Global,
+    cells: &[Octets],
+    most: usize,
+) -> Result<Option<Words<'_>>, AllocError>
     requires { length cells.now < 2 ^ 16 }
-    ensures { IfOk result (λ words. Knows words.places words.bytes.items words.count (distinct_after [] cells.now)) }
+    ensures some { IfOk result (λ found. IfSome found (λ words. Knows words.places words.bytes.items words.count (distinct_after [] cells.now))) }
+    ensures none { IfOk result (λ found. IfNone found (most ≤ length (dictionary cells.now))) }
 {
+    // The form, the number of words, and the places.
+    let around = 3 + 2 * cells.len();
     let mut words = Words::new(alloc);
     for cell in cells {
         words.add(cell.as_slice())?;
+        if words.bytes.len() >= most.saturating_sub(around) {
+            return Ok(None);
+        }
     }
-    Ok(words)
+    Ok(Some(words))
 }
 
-/// The dictionary form of the cells.
-pub fn dictionary_page(alloc: Global, cells: &[Octets]) -> Result<Vec<u8>, AllocError>
+/// The dictionary form of the cells; None only where it has `most` bytes or more, which often shows
+/// before all cells were looked at.
+pub fn dictionary_within(
+    alloc: Global,
+    cells: &[Octets],
+    most: usize,
+) -> Result<Option<Vec<u8>>, AllocError>
     requires { length cells.now < 2 ^ 16 }
+    ensures some { IfOk result (λ found. IfSome found (λ page. page.items ≡ dictionary cells.now)) }
+    ensures none { IfOk result (λ found. IfNone found (most ≤ length (dictionary cells.now))) }
+{
+    match words_within(alloc, cells, most)? {
+        Some(words) => Ok(Some(dictionary_page(alloc, &words, cells)?)),
+        None => Ok(None),
+    }
+}
+
+// The dictionary form of the cells whose words these are.
+fn dictionary_page(
+    alloc: Global,
+    words: &Words<'_>,
+    cells: &[Octets],
+) -> Result<Vec<u8>, AllocError>
+    requires { Knows words.now.places words.now.bytes.items words.now.count (distinct_after [] cells.now) }
     ensures { IfOk result (λ page. page.items ≡ dictionary cells.now) }
 {
-    let words = words_of(alloc, cells)?;
     let mut page = Vec::new(alloc);
     page.push(2)?;
     put_u16(&mut page, words.count)?;

@@ -16,6 +16,7 @@ use Rattle.segment_form.specs.Segments.{block_body, block_file, block_mark, bloc
 use Rattle.segment_form.proofs.Bodies.{body_long, length-block_file}
 use Rattle.segment_form.proofs.Fitting.{columns_fit}
 use Rattle.segment_form.proofs.Marks.{length-marks_of, marks_fit, marks_rise}
+use Rattle.segment_form.proofs.RowsInBlocks.{length-blocks_of}
 
 -- ---- blocks
 
@@ -31,11 +32,7 @@ blocks_some rows some =
 pub blocks_none : (rows : List (List Value)) → length rows ≡ 0 → blocks_of rows ≡ []
 blocks_none rows none = ap (λ (n : ℕ). blocks_from (blocks_for n) rows) none
 
-length-blocks_from : (n : ℕ) (rows : List (List Value)) → length (blocks_from n rows) ≡ n
-length-blocks_from zero rows = refl
-length-blocks_from (suc n) rows = ap suc (length-blocks_from n (drop 1024 rows))
-
-length-block_marks : (s : Layout) (place : ℕ) (bs : List (List (List Value))) → length (block_marks s place bs) ≡ length bs
+pub length-block_marks : (s : Layout) (place : ℕ) (bs : List (List (List Value))) → length (block_marks s place bs) ≡ length bs
 length-block_marks s place [] = refl
 length-block_marks s place (b ∷ bs) = ap suc (length-block_marks s (place + length (block_file s b)) bs)
 
@@ -105,7 +102,7 @@ in_range s lawful (suc n) place rows fit low =
 -- ---- the footer
 
 length-footer_blocks : (s : Layout) (rows : List (List Value)) → length (block_marks s 0 (blocks_of rows)) ≡ blocks_for (length rows)
-length-footer_blocks s rows = length-block_marks s 0 (blocks_of rows) ∙ length-blocks_from (blocks_for (length rows)) rows
+length-footer_blocks s rows = length-block_marks s 0 (blocks_of rows) ∙ length-blocks_of rows
 
 pub segment_footer_fits : (s : Layout) (rows : List (List Value)) → schema_fault s.columns s.keys ≡ None → AreSegmentRows s rows → FooterFits (footer_of s rows)
 segment_footer_fits s rows lawful are =

@@ -13,7 +13,9 @@ use Rattle.column_page.specs.Page.{page_of, AllFit}
 use Rattle.column_page.specs.Footers.{u32_bytes}
 use Rattle.segment_form.specs.Segments.{block_body, block_file, column_cells, pages, sized}
 use Rattle.segment_form.proofs.Fitting.{columns_fit, ColumnsFit, FitsColumn}
-use Rattle.segment_form.proofs.Sizes.{length-sha256, length-u32, mark_size, page_long}
+use Rattle.sha2.proofs.Facts256.{length-sha256}
+use Rattle.column_page.proofs.Lengths.{length-u32}
+use Rattle.segment_form.proofs.Sizes.{mark_size, page_long}
 
 rows_times : (b : Truth) (n : ℕ) → n ≤ 1024 → n * (mark_size b + 65535) ≤ 1024 * mark_size b + 67107840
 rows_times false n few = omega arith

@@ -3,5 +3,5 @@ pub mod Sizes
 pub mod Bodies
 pub mod Marks
 pub mod Blocks
-pub mod Tails
 pub mod Rising
+pub mod RowsInBlocks

@@ -1,15 +1,12 @@
--- How long pages, blocks and footers can be.
-use Rattle.std.proofs.Common.{◌≡◌, ℕ, zero, suc, ◌+◌, ◌*◌, ◌≤◌, List, [], ◌∷◌, length, map, refl, ap, arith, Bool as Truth, true, false, IsTrue}
-use Rattle.std.specs.Prelude.{All, slice_index, nat_lt, nat_le, not, nat_eq}
+-- How long a page can be.
+use Rattle.std.proofs.Common.{◌≡◌, ℕ, ◌+◌, ◌*◌, ◌≤◌, List, [], ◌∷◌, length, map, refl, ap, arith, Bool as Truth, true, false, IsTrue}
+use Rattle.std.specs.Prelude.{All, nat_lt, nat_le, not, nat_eq}
 use Rattle.std.specs.List.{concat}
-use Rattle.std.specs.Int.{to_be_bytes, w32}
 use Rattle.std.specs.Cmp.Lexicographic.{pointwise}
 use Rattle.std.proofs.Math.Nat.{suc-mul}
 use Rattle.std.proofs.lemmas.Bool.{and_parts, cond_both, false≢true, leb-true, ltb-true}
 use Rattle.std.proofs.lemmas.List.{length-append, length-map}
 use Rattle.std.proofs.lemmas.List.Elements.{All-head, All-map, All-tail}
-use Rattle.byteorder.specs.Numbers.{length-bytes_high_first}
-use Rattle.sha2.specs.Sha256.{digest_bytes, sha256}
 use Rattle.pk_values.specs.Fits.{fits, fits_kind, null_mark as null_text}
 use Rattle.pk_values.specs.Schemas.{is_kind}
 use Rattle.pk_values.specs.declared.cells.Kind.{Kind}
@@ -19,29 +16,8 @@ use Rattle.pk_values.specs.declared.cells.Value.TheVariants.{Null, Bool, Num, Da
 use Rattle.pk_values.specs.declared.cells.Column.{Column}
 use Rattle.column_page.specs.CellBytes.{cell_bytes, flag_bytes, null_mark, text_bytes, u16_bytes, value_bytes}
 use Rattle.column_page.specs.Page.{dictionary, page, page_of, plain, run_length, shorter, AllFit, Cell}
-use Rattle.column_page.specs.Footers.{u32_bytes, u64_bytes}
-use Rattle.column_page.proofs.OneCell.{length-code, length-number, length-u16, shape_of}
-
--- ---- numbers and digests
-
-pub length-u32 : (n : ℕ) → length (u32_bytes n) ≡ 4
-unfolding u32_bytes
-length-u32 n = length-bytes_high_first 4 n
-
-pub length-u64 : (n : ℕ) → length (u64_bytes n) ≡ 8
-unfolding u64_bytes
-length-u64 n = length-bytes_high_first 8 n
-
-length-digest_bytes : (h : List ℕ) (n : ℕ) → length (digest_bytes h n) ≡ 4 * n
-unfolding digest_bytes
-length-digest_bytes h zero = refl
-length-digest_bytes h (suc n) =
-    let e = length-digest_bytes h n in
-    omega (arith, length-append (digest_bytes h n) (to_be_bytes w32 (slice_index h n)))
-
-pub length-sha256 : (bytes : List ℕ) → length (sha256 bytes) ≡ 32
-unfolding sha256
-length-sha256 bytes = length-digest_bytes _ 8
+use Rattle.column_page.proofs.Lengths.{length-code, length-u16}
+use Rattle.column_page.proofs.OneCell.{length-number, shape_of}
 
 -- ---- a cell
 

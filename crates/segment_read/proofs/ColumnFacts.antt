@@ -117,10 +117,6 @@ pub marks-grown : (n : ℕ) (cs : List Column) (c : Column) (rows : List (List V
 marks-grown n cs c rows cells e all same =
     marks-over 0 (cs ++ c ∷ []) (with_column rows cells) ∙ over-grown make_mark n cs c rows cells e all same ∙ ap (λ (t : List ColumnMark). t ++ mark_of cells ∷ []) (sym (marks-over 0 cs rows))
 
-pub length-marks_of : (i : ℕ) (cs : List Column) (rows : List (List Value)) → length (marks_of i cs rows) ≡ length cs
-length-marks_of i [] rows = refl
-length-marks_of i (c ∷ cs) rows = ap suc (length-marks_of (i + 1) cs rows)
-
 -- ---- rows that fit
 
 fits-push : (cs : List Column) (c : Column) (r : List Value) (v : Value) → fits_all cs r ≡ true → fits c v ≡ true → fits_all (cs ++ c ∷ []) (r ++ v ∷ []) ≡ true

@@ -1,11 +1,9 @@
 -- The file of a segment's rows has their footer, and its blocks are theirs.
-use Rattle.std.proofs.Common.{◌≡◌, ℕ, zero, suc, ◌+◌, ◌-◌, ◌<◌, ◌≤◌, List, [], ◌∷◌, ◌++◌, All, IsTrue, Some, length, get_or, take, drop, min, refl, sym, subst, ap, ◌∙◌, append_assoc, arith, length-append, length-drop, slice_get}
+use Rattle.std.proofs.Common.{◌≡◌, ℕ, zero, suc, ◌+◌, ◌-◌, ◌≤◌, List, [], ◌∷◌, ◌++◌, All, IsTrue, Some, length, get_or, take, drop, min, refl, sym, subst, ap, ◌∙◌, append_assoc, arith, length-append, length-drop, slice_get}
 use Rattle.std.specs.List.{flat_map}
 use Rattle.std.proofs.lemmas.List.{drop-drop, drop_at, length-take, take_at}
 use Rattle.std.proofs.lemmas.List.Elements.{All-cons, All-drop, All-get_or, All-nil, All-take}
-use Rattle.std.proofs.lemmas.Option.{get_or_from_slice_get}
-use Rattle.sha2.specs.Sha256.{sha256}
-use Rattle.sha2.proofs.Facts256.{length-sha256}
+use Rattle.std.proofs.lemmas.Option.{get_or_from_slice_get, slice_get_within}
 use Rattle.pk_values.specs.Schemas.{fits_row, Layout}
 use Rattle.pk_values.specs.declared.cells.Value.{Value}
 use Rattle.column_page.specs.Footers.{is_footer}
@@ -15,17 +13,15 @@ use Rattle.segment_form.specs.Segments.{block_body, block_file, block_mark, bloc
 use Rattle.segment_read.specs.Blocks.{AreBlockRows}
 use Rattle.segment_read.specs.Footers.{blocks_end, HasFooter}
 use Rattle.segment_read.specs.Reads.{block_in}
+use Rattle.segment_form.proofs.Bodies.{length-block_file}
 use Rattle.segment_read.proofs.Whole.{one_less}
-
-long_file : (s : Layout) (b : List (List Value)) → length (block_file s b) ≡ length (block_body s b) + 32
-long_file s b = omega (arith, length-append (block_body s b) (sha256 (block_body s b)), length-sha256 (block_body s b))
 
 ends_told : (s : Layout) (at : ℕ) (bs : List (List (List Value))) → at + length (flat_map (block_file s) bs) ≡ blocks_end at (block_marks s at bs)
 ends_told s at [] = omega arith
 ends_told s at (b ∷ bs) =
     let next = at + length (block_file s b) in
     let here : at + length (block_file s b ++ flat_map (block_file s) bs) ≡ next + length (flat_map (block_file s) bs) = omega (arith, length-append (block_file s b) (flat_map (block_file s) bs)) in
-    let there : next ≡ at + length (block_body s b) + 32 = omega (arith, long_file s b) in
+    let there : next ≡ at + length (block_body s b) + 32 = omega (arith, length-block_file s b) in
     here ∙ ends_told s next bs ∙ ap (λ (k : ℕ). blocks_end k (block_marks s next bs)) there
 
 pub has_its_footer : (s : Layout) (rows : List (List Value)) → FooterFits (footer_of s rows) → IsTrue (is_footer (footer_of s rows)) → HasFooter s (footer_of s rows) (segment_file s rows)
@@ -109,21 +105,16 @@ bytes_there s (suc i) (x ∷ bs) b tail there =
     ∙ ap (take (length (block_file s b))) (sym (drop-drop (bytes_before s i bs) (length front) (front ++ (rest ++ tail))) ∙ ap (drop (bytes_before s i bs)) (drop_at front (rest ++ tail) (length front) refl))
     ∙ bytes_there s i bs b tail there
 
-got_inside : (bs : List (List (List Value))) (i : ℕ) (b : List (List Value)) → slice_get bs i ≡ Some b → i < length bs
-got_inside [] i b e = cc
-got_inside (x ∷ bs) zero b e = omega arith
-got_inside (x ∷ bs) (suc i) b e = let rest = got_inside bs i b e in omega arith
-
 pub block_there : (s : Layout) (rows : List (List Value)) (i : ℕ) (mark : BlockMark) (b : List (List Value)) → AreSegmentRows s rows → slice_get (block_marks s 0 (blocks_of rows)) i ≡ Some mark → slice_get (blocks_of rows) i ≡ Some b
     → AreBlockRows s mark (block_in (segment_file s rows) mark) b
 block_there s rows i mark b are got there =
     let bs = blocks_of rows in
     let is = mark_there s 0 i bs mark b got there in
     let all = are_blocks s (blocks_for (length rows)) rows are.fit are.rise refl in
-    let one : IsBlock s (get_or bs i b) = All-get_or (IsBlock s) bs i b (got_inside bs i b there) all in
+    let one : IsBlock s (get_or bs i b) = All-get_or (IsBlock s) bs i b (slice_get_within bs i b there) all in
     let block : IsBlock s b = subst (IsBlock s) (get_or_from_slice_get bs i b b there) one in
     let place : mark.place ≡ bytes_before s i bs = zero_plus mark.place (bytes_before s i bs) (ap (λ (x : BlockMark). x.place) is) in
-    let long : mark.length + 32 ≡ length (block_file s b) = ap (λ (x : BlockMark). x.length + 32) is ∙ sym (long_file s b) in
+    let long : mark.length + 32 ≡ length (block_file s b) = ap (λ (x : BlockMark). x.length + 32) is ∙ sym (length-block_file s b) in
     record {
       fit = block.fit;
       rise = block.rise;

@@ -1,5 +1,5 @@
 -- All rows of a segment, one block after the other.
-use Rattle.std.proofs.Common.{◌≡◌, ◌⊎◌, ℕ, ◌+◌, ◌<◌, List, [], ◌∷◌, ◌++◌, Some, length, get_or, take, refl, sym, subst, ap, ◌∙◌, slice_get}
+use Rattle.std.proofs.Common.{◌≡◌, ◌⊎◌, ℕ, ◌+◌, ◌-◌, ◌^◌, ◌<◌, ◌≤◌, List, [], ◌∷◌, ◌++◌, Some, Ok, Err, IfOk, Result, length, get_or, take, min, refl, sym, subst, ap, ◌∙◌, arith, slice_get}
 use Rattle.std.specs.List.{flat_map}
 use Rattle.std.proofs.lemmas.List.{append-nil}
 use Rattle.std.proofs.lemmas.List.Concat.{flat_map-append}
@@ -8,18 +8,20 @@ use Rattle.pk_values.specs.Schemas.{Layout}
 use Rattle.pk_values.specs.declared.cells.Value.{Value}
 use Rattle.column_page.specs.declared.footers.BlockMark.{BlockMark}
 use Rattle.column_page.specs.declared.footers.Footer.{Footer}
-use Rattle.dev_traits.specs.Reader.{ReaderView}
+use Rattle.dev_traits.specs.Reader.{ReaderView, SameFile}
 use Rattle.dev_traits.specs.declared.faults.Part.{Part}
 use Rattle.dev_traits.specs.declared.faults.Part.TheVariants as part
 use Rattle.dev_traits.specs.declared.faults.Shown.{Shown}
 use Rattle.dev_traits.specs.declared.faults.ReadFault.{ReadFault}
 use Rattle.dev_traits.specs.declared.faults.ReadFault.TheVariants as read
-use Rattle.segment_form.specs.Segments.{KeysRise}
-use Rattle.segment_read.specs.Blocks.{AreTheRows, BlockShown}
+use Rattle.segment_form.specs.Segments.{block_marks, blocks_of, KeysRise}
+use Rattle.segment_form.proofs.Blocks.{length-block_marks}
+use Rattle.segment_read.specs.Blocks.{AreBlockRows, AreTheRows, BlockShown}
 use Rattle.segment_read.specs.Footers.{HasFooter}
-use Rattle.segment_read.specs.Reads.{block_in, IsDamage, KnowsFooter, OfBlock, OnDamage, Told}
-use Rattle.segment_read.specs.Rows.{AreBlocks, AreRowsBefore, FallsBack, IsRowsDamage}
+use Rattle.segment_read.specs.Reads.{block_in, HasRead, IsDamage, KnowsFooter, OfBlock, OnDamage, Reading, Told}
+use Rattle.segment_read.specs.Rows.{AreBlocks, AreRowsBefore, FallsBack, IsRowsDamage, IsSegmentOf}
 use Rattle.segment_read.proofs.FooterFacts.{take_got}
+use Rattle.segment_read.proofs.Intact.{block_there}
 
 pub damage_weaker : (e : ReadFault) (file : ℕ) (p : Part) (P Q : Shown → Type 0) → ((shown : Shown) → P shown → Q shown) → OnDamage e (IsDamage file p P) → OnDamage e (IsDamage file p Q)
 damage_weaker (read.Damaged d) file p P Q step is = record { file_is = is.file_is; part_is = is.part_is; shows = step d.shown is.shows }
@@ -78,3 +80,50 @@ rows_damage s f f' number number' n old now rows (read.Damaged d) kept same byte
 }
 rows_damage s f f' number number' n old now rows read.StoreFault kept same bytes lt before is = tt
 rows_damage s f f' number number' n old now rows read.Memory kept same bytes lt before is = tt
+
+-- ---- reads
+
+-- a call that reads leaves the reader with its file
+pub same_file : {T : Type 0} (count : ℕ) (old new : ReaderView) (result : Result T ReadFault) → Reading count old new result → SameFile old new
+same_file count old new (Ok x) reading = reading.same
+same_file count old new (Err e) reading = reading.same
+
+-- so many reads so far, none of which failed
+pub record ReadSoFar (count : ℕ) (old new : ReaderView) : Type 0 where
+  pub same : SameFile old new
+  pub most : new.reads ≤ old.reads + count
+  pub grows : min (old.reads + count) (2 ^ 64 - 1) ≤ new.reads
+  pub capped : 1 ≤ count → new.reads ≤ 2 ^ 64 - 1
+  pub unfailed : new.faults ≡ old.faults
+
+same_through : (old mid new : ReaderView) → SameFile old mid → SameFile mid new → SameFile old new
+same_through old mid new one two = record { bytes = two.bytes ∙ one.bytes; size = two.size ∙ one.size }
+
+pub read_more : (count : ℕ) (old mid new : ReaderView) → ReadSoFar count old mid → HasRead 1 mid new → ReadSoFar (count + 1) old new
+read_more count old mid new so_far one = record {
+  same = same_through old mid new so_far.same one.same;
+  most = omega (arith, so_far.most, one.reads);
+  grows = omega (arith, so_far.grows, one.reads);
+  capped = λ h. omega (arith, one.reads);
+  unfailed = one.unfailed ∙ so_far.unfailed;
+}
+
+pub if_ok_so : {T E : Type 0} (result : Result T E) (P Q : T → Type 0) → ((x : T) → P x → Q x) → IfOk result P → IfOk result Q
+if_ok_so (Ok x) P Q f p = f x p
+if_ok_so (Err e) P Q f p = tt
+
+-- ---- the blocks of a segment
+
+-- what is read of a block of a segment is that block of its rows
+pub block_of_segment : (s : Layout) (f : Footer) (file : List ℕ) (rows found : List (List Value)) (b : ℕ) → IsSegmentOf s f file rows → b < length f.blocks
+    → OfBlock f b (λ mark. AreTheRows s mark (block_in file mark) found) → slice_get (blocks_of rows) b ≡ Some found
+block_of_segment s f file rows found b is lt read =
+    let marks : f.blocks ≡ block_marks s 0 (blocks_of rows) = ap (λ (x : Footer). x.blocks) is.footer_is in
+    let mark = get_or f.blocks b no_block in
+    let got : slice_get f.blocks b ≡ Some mark = slice_get-get_or f.blocks b no_block lt in
+    let inside : b < length (blocks_of rows) = omega (arith, ap length marks, length-block_marks s 0 (blocks_of rows)) in
+    let block = get_or (blocks_of rows) b [] in
+    let there : slice_get (blocks_of rows) b ≡ Some block = slice_get-get_or (blocks_of rows) b [] inside in
+    let its = block_there s rows b mark block is.are (ap (λ (ms : List BlockMark). slice_get ms b) (sym marks) ∙ got) there in
+    let here = subst (λ (bytes : List ℕ). AreBlockRows s mark (block_in bytes mark) block) (sym is.file_is) its in
+    there ∙ ap Some (sym ((read mark got).only block here))

@@ -1,14 +1,10 @@
 -- A page behind its length is the only one at the front of its bytes.
 use Rattle.std.proofs.Common.{◌≡◌, ℕ, ◌+◌, ◌<◌, ◌≤◌, ◌^◌, List, ◌++◌, length, take, drop, refl, sym, ap, ◌∙◌, append_assoc, arith, length-append, length-drop}
 use Rattle.std.proofs.lemmas.List.{drop_at, take_at}
-use Rattle.byteorder.specs.Numbers.{length-bytes_high_first}
 use Rattle.column_page.specs.Footers.{u32_bytes}
+use Rattle.column_page.proofs.Lengths.{length-u32}
 use Rattle.column_page.proofs.SequenceFacts.{u32_long, u32_step}
 use Rattle.segment_form.specs.Segments.{sized}
-
-pub length-u32 : (n : ℕ) → length (u32_bytes n) ≡ 4
-unfolding u32_bytes
-length-u32 n = length-bytes_high_first 4 n
 
 pub sized_open : (p rest bytes : List ℕ) → sized p ++ rest ≡ bytes → u32_bytes (length p) ++ (p ++ rest) ≡ bytes
 sized_open p rest bytes e = sym (append_assoc (u32_bytes (length p)) p rest) ∙ e

@@ -16,8 +16,8 @@ use Rattle.segment_read.specs.Footers.{longest_footer, FooterShown, HasFooter, H
 use Rattle.segment_read.specs.Reads.{fault_of, IsDamage, OnDamage}
 use Rattle.segment_read.specs.declared.faults.PartFault.{PartFault}
 use Rattle.segment_read.specs.declared.faults.PartFault.TheVariants as fault
-use Rattle.segment_read.proofs.FooterFacts.{length-footer}
-use Rattle.segment_read.proofs.Sized.{length-u32}
+use Rattle.column_page.proofs.FooterParts.{length-footer}
+use Rattle.column_page.proofs.Lengths.{length-u32}
 
 pub same_number : (n m : ℕ) → n < 2 ^ 32 → m < 2 ^ 32 → u32_bytes n ≡ u32_bytes m → n ≡ m
 same_number n m small small' e =

@@ -1,14 +1,14 @@
 -- Rows that are all rows of a file's blocks are those of its segment.
-use Rattle.std.proofs.Common.{◌≡◌, ℕ, suc, ◌+◌, ◌-◌, ◌≤◌, List, [], ◌∷◌, ◌++◌, All, IsTrue, true, length, take, drop, min, refl, sym, subst, ap, ◌∙◌, append_assoc, arith, length-append, ◌&&◌, ◌==◌, nat_le}
-use Rattle.std.specs.List.{flat_map, list_all}
-use Rattle.std.proofs.lemmas.Bool.{and_parts, leb-true}
+use Rattle.std.proofs.Common.{◌≡◌, ℕ, suc, ◌+◌, ◌-◌, ◌≤◌, List, [], ◌∷◌, ◌++◌, All, IsTrue, true, length, take, drop, min, refl, sym, subst, ap, ◌∙◌, append_assoc, arith, length-append}
+use Rattle.std.specs.List.{flat_map}
+use Rattle.std.proofs.lemmas.Bool.{and_parts}
 use Rattle.std.proofs.lemmas.List.{append-nil, drop-drop, drop_all, drop_at, take-append-drop, take_all, take_at}
 use Rattle.std.proofs.lemmas.List.Elements.{All-append, All-nil}
 use Rattle.sha2.specs.Sha256.{sha256}
 use Rattle.sha2.proofs.Facts256.{length-sha256}
 use Rattle.pk_values.specs.Schemas.{fits_row, Layout}
 use Rattle.pk_values.specs.declared.cells.Value.{Value}
-use Rattle.column_page.specs.Footers.{block_fits, blocks_fit, span_rises}
+use Rattle.column_page.specs.Footers.{block_fits, blocks_fit}
 use Rattle.column_page.proofs.FooterFacts.{footer_is}
 use Rattle.column_page.specs.declared.footers.BlockMark.{BlockMark}
 use Rattle.column_page.specs.declared.footers.Footer.{Footer}
@@ -17,7 +17,7 @@ use Rattle.segment_read.specs.Blocks.{AreTheRows}
 use Rattle.segment_read.specs.Footers.{blocks_end, HasFooter}
 use Rattle.segment_read.specs.Reads.{block_in}
 use Rattle.segment_read.specs.Rows.{AreBlocks, AreRowsBefore, IsSegmentOf}
-use Rattle.segment_read.proofs.FooterFacts.{footer_parts, placed, rows_told}
+use Rattle.column_page.proofs.FooterParts.{block_parts, footer_parts}
 use borrow.Author.Tests.{eqb-true}
 
 -- the rows of blocks
@@ -34,14 +34,8 @@ record Fits (columns at left : ℕ) (m : BlockMark) (ms : List BlockMark) : Type
 fits_parts : (columns at left : ℕ) (m : BlockMark) (ms : List BlockMark) → blocks_fit columns at left (m ∷ ms) ≡ true → Fits columns at left m ms
 fits_parts columns at left m ms h =
     let parts = and_parts (block_fits columns at left m) (blocks_fit columns (at + m.length + 32) (left - m.rows) ms) h in
-    let e = nat_le 1 m.rows && ((m.rows == min 1024 left) && ((length m.marks == columns) && list_all (λ x. span_rises x.span) m.marks)) in
-    let p1 = and_parts (m.place == at) e parts.0 in
-    record {
-      place = placed columns at left m parts.0;
-      some = leb-true 1 m.rows (and_parts (nat_le 1 m.rows) ((m.rows == min 1024 left) && ((length m.marks == columns) && list_all (λ x. span_rises x.span) m.marks)) p1.1).0;
-      rows = rows_told columns at left m parts.0;
-      others = parts.1;
-    }
+    let first = block_parts columns at left m parts.0 in
+    record { place = first.place; some = first.some_rows; rows = first.rows; others = parts.1 }
 
 counted : (s : Layout) (file : List ℕ) (m : BlockMark) (b : List (List Value)) → AreTheRows s m (block_in file m) b → length b ≡ m.rows
 counted s file m b are = ap (λ (x : BlockMark). x.rows) are.are.told

@@ -1,9 +1,9 @@
 -- What calls that read do to a reader, and what they tell.
-use Rattle.std.specs.Prelude.{◌≡◌, ℕ, ◌+◌, ◌-◌, ◌^◌, ◌≤◌, min, List, take, drop, Some, slice_get, Result, IsErrOf, ⊤}
+use Rattle.std.specs.Prelude.{◌≡◌, ◌≢◌, ℕ, ◌+◌, ◌-◌, ◌^◌, ◌≤◌, min, List, take, drop, Some, slice_get, Result, MatchResult, ⊤}
 use Rattle.pk_values.specs.Schemas.{Layout}
 use Rattle.column_page.specs.declared.footers.BlockMark.{BlockMark}
 use Rattle.column_page.specs.declared.footers.Footer.{Footer}
-use Rattle.dev_traits.specs.Causes.{Rose}
+use Rattle.dev_traits.specs.Causes.{Counts}
 use Rattle.dev_traits.specs.Reader.{ReaderView, SameFile}
 use Rattle.dev_traits.specs.declared.faults.Damaged.{Damaged}
 use Rattle.dev_traits.specs.declared.faults.Part.{Part}
@@ -30,20 +30,30 @@ OfBlock f b P = (mark : BlockMark) → slice_get f.blocks b ≡ Some mark → P 
 abbrev pub block_in : List ℕ → BlockMark → List ℕ
 block_in file mark = take (mark.length + 32) (drop mark.place file)
 
--- a reader of the same file, after at most so many reads more; a count never falls, and stops at the last u64
-pub record ReadsOn (most : ℕ) (old new : ReaderView) : Type 0 where
+-- a reader of the same file after so many reads more, none of which failed; counts stop at the last u64
+pub record HasRead (count : ℕ) (old new : ReaderView) : Type 0 where
   pub same : SameFile old new
-  pub reads : new.reads ≤ old.reads + most
-  pub grows : min old.reads (2 ^ 64 - 1) ≤ new.reads
-  pub later : old.faults ≤ new.faults
+  pub reads : Counts count old.reads new.reads
+  pub unfailed : new.faults ≡ old.faults
 
--- a call that reads at most so often, and tells a fault of the device only where the reader counted one
-pub record Reading {T : Type 0} (most : ℕ) (old new : ReaderView) (result : Result T ReadFault) : Type 0 where
+-- a reader of the same file after at most so many reads more, none of which failed
+pub record MayHaveRead (most : ℕ) (old new : ReaderView) : Type 0 where
   pub same : SameFile old new
   pub reads : new.reads ≤ old.reads + most
   pub grows : min old.reads (2 ^ 64 - 1) ≤ new.reads
-  pub later : old.faults ≤ new.faults
-  pub failed : IsErrOf result read.StoreFault → Rose old.faults new.faults
+  pub unfailed : new.faults ≡ old.faults
+
+-- a reader of the same file after at most so many reads more, and a fault; of the faults that of the device alone is counted, once
+pub record HasFailed (most : ℕ) (old new : ReaderView) (fault : ReadFault) : Type 0 where
+  pub same : SameFile old new
+  pub reads : new.reads ≤ old.reads + most
+  pub grows : min old.reads (2 ^ 64 - 1) ≤ new.reads
+  pub well : fault ≢ read.StoreFault → new.faults ≡ old.faults
+  pub failed : fault ≡ read.StoreFault → Counts 1 old.faults new.faults
+
+-- a call that reads so often where it goes well, and else no more often
+abbrev pub Reading : {T : Type 0} → ℕ → ReaderView → ReaderView → Result T ReadFault → Type 0
+Reading count old new result = MatchResult result (λ _. HasRead count old new) (λ fault. HasFailed count old new fault)
 
 -- a damage of this part of this file, which shows so
 pub record IsDamage (file : ℕ) (part : Part) (Shows : Shown → Type 0) (damaged : Damaged) : Type 0 where

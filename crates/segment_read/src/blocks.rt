@@ -3,11 +3,11 @@ ghost use Rattle.segment_read.specs.Blocks.{AreTheRows, BlockShown, OnShown};
 
 use crate::digests::digests_shown;
 use crate::faults::PartFault;
-use crate::keys::keys_rise;
 use crate::rows::read_rows;
 use column_page::{BlockMark, PageFault};
 use dev_traits::Shown;
 use pk_values::{Row, Schema};
+use segment_form::keys_rise;
 use std::alloc::Global;
 
 /// The rows whose block these bytes are, by what the footer tells of it.

@@ -4,7 +4,7 @@ ghost use Rattle.column_page.specs.declared.footers.Footer.{Footer};
 ghost use Rattle.dev_traits.specs.declared.faults.Part.TheVariants as part;
 ghost use Rattle.segment_read.specs.Blocks.{OnShown};
 ghost use Rattle.segment_read.specs.Footers.{blocks_end, longest_footer, FooterShown, HasFooter, HasTail, IsTheFooter, TailShown};
-ghost use Rattle.segment_read.specs.Reads.{IsDamage, KnowsFooter, OnDamage, Reading, Told};
+ghost use Rattle.segment_read.specs.Reads.{HasFailed, HasRead, IsDamage, KnowsFooter, MayHaveRead, OnDamage, Reading, Told};
 
 use crate::digests::digests_shown;
 use crate::faults::{PartFault, fault_of};
@@ -73,7 +73,9 @@ fn footer_length<R: SealedReader>(reader: &mut R) -> Result<Option<u32>, ReadFau
     ensures told { IfOk result (λ found. IfSome found (λ len. Told (R.view reader.old) (λ file. drop (length file - 4) file ≡ u32_bytes len))) }
     ensures none { IfOk result (λ found. IfNone found (Told (R.view reader.old) (λ file. (body digest : List ℕ) → HasTail file body digest → ⊥))) }
     ensures undamaged { IfErr result (λ e. OnDamage e (λ damaged. ⊥)) }
-    ensures reading { Reading 1 (R.view reader.old) (R.view reader.new) result }
+    ensures read { IfOk result (λ found. IfSome found (λ len. HasRead 1 (R.view reader.old) (R.view reader.new))) }
+    ensures refused { IfOk result (λ found. IfNone found (MayHaveRead 1 (R.view reader.old) (R.view reader.new))) }
+    ensures failed { IfErr result (λ e. HasFailed 1 (R.view reader.old) (R.view reader.new) e) }
 {
     let size = reader.length();
     if size < 4 {

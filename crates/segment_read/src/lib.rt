@@ -3,11 +3,9 @@
 
 mod blocks;
 mod columns;
-mod copies;
 mod digests;
 mod faults;
 mod footers;
-mod keys;
 mod laws;
 mod pages;
 mod pieces;
@@ -18,6 +16,3 @@ mod segments;
 pub use laws::intact_files;
 pub use scans::rows_of;
 pub use segments::{Segment, attach, block, row_at};
-
-#[cfg(test)]
-mod tests;

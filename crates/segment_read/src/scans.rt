@@ -9,10 +9,10 @@ ghost use Rattle.segment_read.specs.Reads.{block_in, IsDamage, KnowsFooter, OfBl
 ghost use Rattle.segment_read.specs.Rows.{AreRowsBefore, FallsBack, IsRowsDamage, IsSegmentOf};
 
 use crate::faults::{PartFault, fault_of};
-use crate::keys::is_below;
 use crate::segments::{Segment, block};
 use dev_traits::{Part, ReadFault, SealedReader, Shown};
 use pk_values::{Row, Schema};
+use segment_form::is_below;
 use std::alloc::Global;
 
 // Whether the keys of rows that rise still do with other rows behind them.

@@ -1,18 +1,17 @@
-ghost use Rattle.std.specs.Prelude.{◌≡◌, ◌↔◌, ◌+◌, ◌/◌, ◌%◌, ◌<◌, ◌≤◌, All, IfErr, IfOk, OnOk, OnErr, IsTrue, length, min, slice_get, ◌-◌, ◌^◌};
+ghost use Rattle.std.specs.Prelude.{◌≡◌, ◌↔◌, ◌+◌, ◌/◌, ◌%◌, ◌<◌, ◌≤◌, All, IfErr, IfOk, OnOk, OnErr, IsTrue, List, Some, length, min, slice_get, ◌-◌, ◌^◌};
 ghost use Rattle.pk_values.specs.Schemas.{fits_row, Layout};
 ghost use Rattle.column_page.specs.Footers.{is_footer};
 ghost use Rattle.column_page.specs.declared.footers.Footer.{Footer};
-ghost use Rattle.dev_traits.specs.Causes.{Rose};
-ghost use Rattle.dev_traits.specs.Reader.{Fresh, SameFile};
+ghost use Rattle.dev_traits.specs.Reader.{IsNew, SameFile};
 ghost use Rattle.dev_traits.specs.declared.faults.Part.TheVariants as part;
-ghost use Rattle.dev_traits.specs.declared.faults.ReadFault.TheVariants as read;
-ghost use Rattle.segment_form.specs.Segments.{KeysRise};
+ghost use Rattle.segment_form.specs.Segments.{blocks_of, KeysRise};
+ghost use Rattle.segment_read.specs.Rows.{IsSegmentOf};
+ghost use Rattle.pk_values.specs.declared.cells.Value.{Value};
 ghost use Rattle.segment_read.specs.Blocks.{AreTheRows, BlockShown, IsRowOf};
 ghost use Rattle.segment_read.specs.Footers.{FooterShown, HasFooter};
-ghost use Rattle.segment_read.specs.Reads.{block_in, IsDamage, KnowsFooter, OfBlock, OnDamage, Reading, ReadsOn, Told};
+ghost use Rattle.segment_read.specs.Reads.{block_in, HasFailed, HasRead, IsDamage, KnowsFooter, OfBlock, OnDamage, Reading, Told};
 
 use crate::blocks::read_block;
-use crate::copies::copy_footer;
 use crate::faults::{PartFault, fault_of};
 use crate::footers::read_tail;
 use crate::pieces::read_piece;
@@ -21,11 +20,14 @@ use dev_traits::{Memory, Part, ReadFault, SealedReader, Shown};
 use pk_values::{Row, Schema};
 use std::alloc::Global;
 
-/// A segment: its file's number, a reader of the file, and its footer.
+/// A segment whose footer was read.
 #[derive(Drop)]
 pub struct Segment<R> {
+    /// The number of its file, which damage is told with.
     pub number: u64,
+    /// A reader of the file.
     pub reader: R,
+    /// The footer of the file.
     pub footer: Footer,
     ghost is_of_segment: { IsTrue (is_footer footer) },
 }
@@ -80,6 +82,10 @@ pub fn block<R: SealedReader>(
     requires there { b < length segment.old.footer.blocks }
     ensures rows { IfOk result (λ rows. Told (R.view segment.old.reader) (λ file. OfBlock segment.old.footer b (λ mark.
         AreTheRows schema.now mark (block_in file mark) rows.items))) }
+
+    // Of the file of a segment, that block of the segment's rows.
+    ensures of_segment { IfOk result (λ found. Told (R.view segment.old.reader) (λ file. (rows : List (List Value)) → IsSegmentOf schema.now segment.old.footer file rows
+        → slice_get (blocks_of rows) b ≡ Some found.items)) }
     ensures fit { IfOk result (λ rows. All (λ row. IsTrue (fits_row schema.now row)) rows.items) }
     ensures rise { IfOk result (λ rows. KeysRise schema.now rows.items) }
     ensures damaged { IfErr result (λ e. OnDamage e (IsDamage segment.old.number (part.Block b) (λ shown.
@@ -112,10 +118,9 @@ pub fn attach<R: SealedReader>(
 
     // A file has no other footer.
     ensures only { IfOk result (λ segment. Told (R.view reader) (λ file. (f : Footer) → HasFooter schema.now f file → segment.footer ≡ f)) }
-    ensures attached { IfOk result (λ segment. ReadsOn 2 (R.view reader) (R.view segment.reader)) }
+    ensures attached { IfOk result (λ segment. HasRead 2 (R.view reader) (R.view segment.reader)) }
     ensures damaged { IfErr result (λ e. OnDamage e.1 (IsDamage number part.Footer (λ shown. Told (R.view reader) (λ file. FooterShown schema.now file shown)))) }
-    ensures refused { IfErr result (λ e. ReadsOn 2 (R.view reader) (R.view e.0)) }
-    ensures cause { IfErr result (λ e. e.1 ≡ read.StoreFault → Rose (R.view reader).faults (R.view e.0).faults) }
+    ensures refused { IfErr result (λ e. HasFailed 2 (R.view reader) (R.view e.0) e.1) }
 {
     match read_tail(alloc, schema, &mut reader, number) {
         Ok(footer) => Ok(Segment {
@@ -152,6 +157,10 @@ pub fn row_at<R: SealedReader>(
     requires there { row < segment.old.footer.rows }
     ensures row { IfOk result (λ found. Told (R.view segment.old.reader) (λ file. OfBlock segment.old.footer (row / 1024) (λ mark.
         IsRowOf schema.now mark (block_in file mark) (row % 1024) found))) }
+
+    // Of the file of a segment, that row of the segment.
+    ensures of_segment { IfOk result (λ found. Told (R.view segment.old.reader) (λ file. (rows : List (List Value)) → IsSegmentOf schema.now segment.old.footer file rows
+        → slice_get rows row ≡ Some found)) }
     ensures fit { IfOk result (λ found. IsTrue (fits_row schema.now found)) }
     ensures damaged { IfErr result (λ e. OnDamage e (IsDamage segment.old.number (part.Block (row / 1024)) (λ shown.
         Told (R.view segment.old.reader) (λ file. OfBlock segment.old.footer (row / 1024) (λ mark. BlockShown schema.now mark (block_in file mark) shown))))) }
@@ -177,8 +186,8 @@ impl<R: SealedReader> Segment<R> {
     pub fn copy(&mut self, alloc: Global) -> Result<Segment<R>, Memory>
         ensures number { IfOk result (λ copy. copy.number ≡ self.old.number) }
         ensures footer { IfOk result (λ copy. copy.footer ≡ self.old.footer) }
-        ensures fresh { IfOk result (λ copy. Fresh (R.view self.old.reader).bytes (R.view copy.reader)) }
-        ensures size { IfOk result (λ copy. (R.view copy.reader).size ≡ (R.view self.old.reader).size) }
+        ensures new { IfOk result (λ copy. IsNew (R.view copy.reader)) }
+        ensures file { IfOk result (λ copy. SameFile (R.view self.old.reader) (R.view copy.reader)) }
         ensures kept_number { self.new.number ≡ self.old.number }
         ensures kept_footer { self.new.footer ≡ self.old.footer }
         ensures same { SameFile (R.view self.old.reader) (R.view self.new.reader) }
@@ -188,7 +197,7 @@ impl<R: SealedReader> Segment<R> {
         ensures known { (s : Layout) → KnowsFooter s (R.view self.old.reader) self.old.footer → KnowsFooter s (R.view self.new.reader) self.new.footer }
         ensures copy_known { IfOk result (λ copy. (s : Layout) → KnowsFooter s (R.view self.old.reader) self.old.footer → KnowsFooter s (R.view copy.reader) copy.footer) }
     {
-        let footer = copy_footer(alloc, &self.footer)?;
+        let footer = self.footer.copy(alloc)?;
         let reader = self.reader.another()?;
         Ok(Segment {
             number: self.number,

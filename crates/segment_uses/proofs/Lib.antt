@@ -1,3 +1,4 @@
 pub mod SameRows
 pub mod NoDamage
 pub mod Reading
+pub mod Steps

@@ -1,5 +1,5 @@
 -- No damage is told of the file of a segment.
-use Rattle.std.proofs.Common.{◌≡◌, ◌⊎◌, inl, inr, ℕ, zero, suc, ◌+◌, ◌<◌, ◌≤◌, ◌^◌, List, [], ◌∷◌, ◌++◌, length, take, drop, refl, sym, ap, ◌∙◌, subst, append_assoc, arith, slice_get, Some, length-append}
+use Rattle.std.proofs.Common.{◌≡◌, ◌⊎◌, inl, inr, ℕ, zero, suc, ◌+◌, ◌<◌, List, [], ◌∷◌, ◌++◌, length, take, drop, refl, sym, ap, ◌∙◌, subst, append_assoc, arith, slice_get, Some, length-append}
 use Rattle.std.proofs.lemmas.List.{drop_at, take_at}
 use Rattle.sha2.specs.Sha256.{sha256}
 use Rattle.sha2.proofs.Facts256.{length-sha256}
@@ -13,14 +13,16 @@ use Rattle.dev_traits.specs.declared.faults.Damaged.{Damaged}
 use Rattle.dev_traits.specs.declared.faults.Digest.{Digest}
 use Rattle.dev_traits.specs.declared.faults.Shown.{Shown}
 use Rattle.dev_traits.specs.declared.faults.Shown.TheVariants.{Digests, Form, Absent}
-use Rattle.segment_form.specs.Segments.{block_body, block_file, block_marks, blocks_of, footer_of, segment_file, AreSegmentRows, KeysRise}
+use Rattle.segment_form.specs.Segments.{block_body, block_marks, blocks_of, footer_of, segment_file, AreSegmentRows, KeysRise}
 use Rattle.segment_read.specs.Blocks.{AreBlockRows, BlockShown}
-use Rattle.segment_read.specs.Footers.{longest_footer, FooterShown, HasFooter}
+use Rattle.segment_read.specs.Footers.{FooterShown, HasFooter}
 use Rattle.segment_read.specs.Reads.{block_in}
 use Rattle.segment_read.specs.Rows.{FailsAt, FallsBack, IsRowsDamage}
 use Rattle.segment_read.proofs.Intact.{block_there}
 use Rattle.segment_read.proofs.TailFacts.{only_tail, tail_of_footer, tail_parts}
-use Rattle.segment_uses.proofs.SameRows.{all_joined, length-marks, rows_in, same_before}
+use Rattle.segment_form.proofs.Blocks.{length-block_marks}
+use Rattle.segment_form.proofs.RowsInBlocks.{all_joined}
+use Rattle.segment_uses.proofs.SameRows.{rows_in, same_before}
 
 same_digest : (a b : Digest) → a.bytes ≡ b.bytes → a ≡ b
 same_digest a b e = let digest : List ℕ → Digest = λ bytes. record { bytes = bytes } in ap digest e
@@ -102,7 +104,7 @@ no_rows_damage s rows number reader damaged are told damage =
     let fails : FailsAt s (footer_of s rows) file n damaged.shown = damage.shows file told in
     let lt : n < length (block_marks s 0 (blocks_of rows)) = damage.there in
     let mark = got_mark (block_marks s 0 (blocks_of rows)) n lt in
-    let block = got_block (blocks_of rows) n (omega (arith, length-marks s 0 (blocks_of rows))) in
+    let block = got_block (blocks_of rows) n (omega (arith, length-block_marks s 0 (blocks_of rows))) in
     let is = block_there s rows n mark.0 block.0 are mark.1 block.1 in
     neither (no_block_damage s mark.0 (block_in file mark.0) block.0 damaged.shown is)
     (no_fall s rows n mark.0 block.0 fails.before damaged.shown are is block.1 (same_before s rows n fails.before are fails.are))

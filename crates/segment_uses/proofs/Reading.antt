@@ -1,5 +1,5 @@
 -- What a reader of a segment's file finds.
-use Rattle.std.proofs.Common.{◌≡◌, ℕ, List, length, refl, sym, ap, ◌∙◌, subst, Some, None, Ok, Err, IfOk, IfErr, IsSome, Option, Result}
+use Rattle.std.proofs.Common.{◌≡◌, ℕ, List, length, refl, sym, ap, ◌∙◌, subst, Some, None, Err, IfErr, IsSome, Option, Result}
 use Rattle.std.proofs.lemmas.Bool.{false≢true}
 use Rattle.pk_values.specs.Schemas.{Layout, schema_fault}
 use Rattle.pk_values.specs.declared.cells.Value.{Value}
@@ -53,10 +53,6 @@ pub footer_undamaged : {T : Type 0} (result : Result T ReadFault) (damaged : Dam
 footer_undamaged result damaged s rows number part reader lawful are shown failed file told is =
     let damage = damage_told result damaged (IsDamage number part (λ shown. Told reader (λ file. FooterShown s file shown))) shown failed in
     no_footer_damage s (footer_of s rows) (segment_file s rows) damaged.shown (its_footer s rows lawful are) (damage.shows (segment_file s rows) (told ∙ ap Some is))
-
-pub if_ok_so : {T E : Type 0} (result : Result T E) (P Q : T → Type 0) → ((x : T) → P x → Q x) → IfOk result P → IfOk result Q
-if_ok_so (Ok x) P Q f p = f x p
-if_ok_so (Err e) P Q f p = tt
 
 -- the bytes that a sealed file tells
 pub sealed_is : (bytes : Option (List ℕ)) (file : List ℕ) → ((found : List ℕ) → bytes ≡ Some found → found ≡ file) → IsSome bytes → bytes ≡ Some file

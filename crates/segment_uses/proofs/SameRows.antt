@@ -1,14 +1,16 @@
 -- The rows that are read from the file of a segment are those that it was made of.
-use Rattle.std.proofs.Common.{◌≡◌, ℕ, zero, suc, ◌+◌, ◌≤◌, List, [], ◌∷◌, ◌++◌, length, take, drop, refl, sym, ap, ◌∙◌, arith, slice_get, Some, length-drop}
+use Rattle.std.proofs.Common.{◌≡◌, ℕ, zero, suc, List, [], ◌∷◌, length, take, refl, sym, ap, ◌∙◌, arith, slice_get, Some}
 use Rattle.std.specs.List.{flat_map}
-use Rattle.std.proofs.lemmas.List.{take-append-drop, take_all}
+use Rattle.std.proofs.lemmas.List.{take_all}
 use Rattle.pk_values.specs.Schemas.{Layout}
 use Rattle.pk_values.specs.declared.cells.Value.{Value}
 use Rattle.column_page.specs.declared.footers.BlockMark.{BlockMark}
-use Rattle.segment_form.specs.Segments.{block_file, block_marks, blocks_for, blocks_from, blocks_of, footer_of, segment_file, AreSegmentRows}
+use Rattle.segment_form.specs.Segments.{block_marks, blocks_of, footer_of, segment_file, AreSegmentRows}
 use Rattle.segment_read.specs.Blocks.{AreBlockRows}
 use Rattle.segment_read.specs.Reads.{block_in}
 use Rattle.segment_read.specs.Rows.{AreBlocks, AreRowsBefore}
+use Rattle.segment_form.proofs.Blocks.{length-block_marks}
+use Rattle.segment_form.proofs.RowsInBlocks.{all_joined}
 use Rattle.segment_read.proofs.Intact.{block_there}
 
 -- the rows of blocks
@@ -32,30 +34,15 @@ same_front s file (suc n) (m ∷ ms) (b ∷ bs) (c ∷ cs) e are tell =
     ap (λ (x : List (List Value)). x ∷ bs) (are.0.only c (tell 0 m c refl refl))
     ∙ ap (λ (t : List (List (List Value))). c ∷ t) (same_front s file n ms bs cs (omega arith) are.1 (λ i mark d got there. tell (suc i) mark d got there))
 
-pub length-marks : (s : Layout) (at : ℕ) (bs : List (List (List Value))) → length (block_marks s at bs) ≡ length bs
-length-marks s at [] = refl
-length-marks s at (b ∷ bs) = ap suc (length-marks s (at + length (block_file s b)) bs)
-
--- the blocks of rows have these rows
-joined : (n : ℕ) (rows : List (List Value)) → blocks_for (length rows) ≡ n → rows_in (blocks_from n rows) ≡ rows
-joined zero [] e = refl
-joined zero (r ∷ rows) e = absurd (omega arith)
-joined (suc n) rows e =
-    ap (λ (t : List (List Value)). take 1024 rows ++ t) (joined n (drop 1024 rows) (omega (arith, length-drop 1024 rows)))
-    ∙ take-append-drop 1024 rows
-
-pub all_joined : (rows : List (List Value)) → rows_in (blocks_of rows) ≡ rows
-all_joined rows = joined (blocks_for (length rows)) rows refl
-
 -- the blocks before a place
 pub same_before : (s : Layout) (rows : List (List Value)) (n : ℕ) (found : List (List Value)) → AreSegmentRows s rows → AreRowsBefore s (footer_of s rows) (segment_file s rows) n found → found ≡ rows_in (take n (blocks_of rows))
 same_before s rows n found are before =
     sym before.joined
-    ∙ ap (λ (bs : List (List (List Value))). rows_in bs) (same_front s (segment_file s rows) n (block_marks s 0 (blocks_of rows)) before.blocks (blocks_of rows) (length-marks s 0 (blocks_of rows)) before.are
+    ∙ ap (λ (bs : List (List (List Value))). rows_in bs) (same_front s (segment_file s rows) n (block_marks s 0 (blocks_of rows)) before.blocks (blocks_of rows) (length-block_marks s 0 (blocks_of rows)) before.are
     (λ i mark b got there. block_there s rows i mark b are got there))
 
 pub same_rows : (s : Layout) (rows found : List (List Value)) → AreSegmentRows s rows → AreRowsBefore s (footer_of s rows) (segment_file s rows) (length (footer_of s rows).blocks) found → found ≡ rows
 same_rows s rows found are before =
     let n = length (block_marks s 0 (blocks_of rows)) in
-    let counted : n ≡ length (blocks_of rows) = length-marks s 0 (blocks_of rows) in
+    let counted : n ≡ length (blocks_of rows) = length-block_marks s 0 (blocks_of rows) in
     same_before s rows n found are before ∙ ap (λ (bs : List (List (List Value))). rows_in bs) (take_all n (blocks_of rows) (omega arith)) ∙ all_joined rows

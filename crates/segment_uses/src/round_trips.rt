@@ -1,10 +1,10 @@
 ghost use Rattle.std.specs.Prelude.{◌≡◌, ◌≢◌, ◌⊎◌, OnErr, ◌≤◌, ◌-◌, ◌^◌, min, ℕ, List, Some, None, IfOk, OnOk, IsErrOf};
-ghost use Rattle.dev_traits.specs.Causes.{Rose};
-ghost use Rattle.dev_traits.specs.Image.{file, with_file};
-ghost use Rattle.dev_traits.specs.View.{EachImage, Told};
-ghost use Rattle.dev_traits.specs.Reader.{Fresh};
+ghost use Rattle.dev_traits.specs.Causes.{HasMakeCause, HasReadCause};
+ghost use Rattle.dev_traits.specs.Image.{file, with_file, Same};
+ghost use Rattle.dev_traits.specs.View.{Calm, EachImage, Leaves, Spends, Told};
+ghost use Rattle.dev_traits.specs.Reader.{IsNew};
+ghost use Rattle.segment_uses.specs.Causes.{HasOutsideCause};
 ghost use Rattle.dev_traits.specs.declared.faults.Damaged.{Damaged};
-ghost use Rattle.dev_traits.specs.declared.faults.MakeFault.TheVariants as make;
 ghost use Rattle.dev_traits.specs.declared.faults.OutsideFault.TheVariants as outside;
 ghost use Rattle.dev_traits.specs.declared.faults.ReadFault.TheVariants as read;
 ghost use Rattle.segment_form.specs.Segments.{AreSegmentRows, segment_file};
@@ -25,10 +25,11 @@ fn sealed_rows<S: Store>(
 ) -> Result<<S::Maker as FileMaker>::Sealed, MakeFault>
     requires { AreSegmentRows schema.now rows.now }
     ensures sealed { IfOk result (λ sealed. (bytes : List ℕ) → S.Maker.sealed_bytes sealed ≡ Some bytes → bytes ≡ segment_file schema.now rows.now) }
-    ensures seen { (S.view store.new).seen ≡ (S.view store.old).seen }
-    ensures later { min (S.view store.old).faults (2 ^ 64 - 1) ≤ (S.view store.new).faults }
-    ensures cause { IsErrOf result make.StoreFault → Rose (S.view store.old).faults (S.view store.new).faults }
+    ensures calm { Calm (S.view store.old) (S.view store.new) }
+    ensures cause { HasMakeCause (S.view store.old).faults (S.view store.new).faults result }
 {
+    // A count of faults fits a u64.
+    let _faults = store.faults();
     let mut maker = store.maker()?;
     let made = write_segment(alloc, &mut maker, schema, rows);
     store.give_back(maker);
@@ -45,13 +46,14 @@ fn adopted_rows<S: Store>(
 ) -> Result<S::Reader, MakeFault>
     requires rows { AreSegmentRows schema.now rows.now }
     requires new { Told (S.view store.old) (λ image. file image number ≡ None) }
-    ensures reader { IfOk result (λ reader. Told (S.view store.old) (λ _. Fresh (Some (segment_file schema.now rows.now)) (S.Reader.view reader))) }
-    ensures unread { IfOk result (λ reader. (S.Reader.view reader).faults ≡ 0) }
+    ensures bytes { IfOk result (λ reader. Told (S.view store.old) (λ _. (S.Reader.view reader).bytes ≡ Some (segment_file schema.now rows.now))) }
+    ensures unread { IfOk result (λ reader. IsNew (S.Reader.view reader)) }
     ensures kept { OnOk result (Told (S.view store.old) (λ image. (S.view store.new).seen ≡ Some (with_file number (segment_file schema.now rows.now) image))) }
     ensures durable { OnOk result (Told (S.view store.old) (λ _. EachImage (S.view store.new) (λ left. file left number ≡ Some (segment_file schema.now rows.now)))) }
     ensures not_kept { OnErr result ((S.view store.new).seen ≡ (S.view store.old).seen) }
-    ensures later { min (S.view store.old).faults (2 ^ 64 - 1) ≤ (S.view store.new).faults }
-    ensures cause { IsErrOf result make.StoreFault → Rose (S.view store.old).faults (S.view store.new).faults }
+    ensures spends { Spends 1 0 (S.view store.old) (S.view store.new) }
+    ensures crash { Leaves Same (S.view store.old) (S.view store.new) }
+    ensures cause { HasMakeCause (S.view store.old).faults (S.view store.new).faults result }
 {
     let sealed = sealed_rows(alloc, store, schema, rows)?;
     store.room(1, 0)?;
@@ -72,7 +74,7 @@ fn read_rows<R: SealedReader>(
     requires { AreSegmentRows schema.now _rows.now }
     ensures same { IfOk result.1 (λ found. FileTold (R.view reader) (λ file. file ≡ segment_file schema.now _rows.now → found.items ≡ _rows.now)) }
     ensures damage { (damaged : Damaged) → IsErrOf result.1 (read.Damaged damaged) → FileTold (R.view reader) (λ file. file ≢ segment_file schema.now _rows.now) }
-    ensures cause { IsErrOf result.1 read.StoreFault → Rose (R.view reader).faults (R.view result.0).faults }
+    ensures cause { HasReadCause (R.view reader).faults (R.view result.0).faults result.1 }
 {
     // No schema has a fault.
     let _columns = schema.columns();
@@ -85,11 +87,16 @@ fn read_rows<R: SealedReader>(
     }
 }
 
-/// Writes 1 to 65,536 rows with rising keys as a file of the store, under a number that no file of the store has, and reads them back.
+/// Writes 1 to 65,536 rows with rising keys as a file of the store, under a number that no file of
+/// the store has, and reads them back.
+///
+/// A store keeps memory for as many writes as before, but one. What a crash may leave was one of the
+/// images before, and the file is in each.
 ///
 /// # Errors
-/// `Fault` where the store, its maker or its reader failed, and the store counted it. `Damaged` only
-/// where the store doesn't tell its bytes. `Memory`.
+/// `Fault` exactly where the store, its maker or its reader failed, which the store counted once.
+/// `Damaged` only where the store doesn't tell its bytes. `Memory`. After an error the store has the
+/// file or doesn't, and all else is as it was.
 pub fn write_and_read<S: Store>(
     alloc: Global,
     store: &mut S,
@@ -108,8 +115,12 @@ pub fn write_and_read<S: Store>(
     // After an error the store has the file or doesn't, and all else is as it was.
     ensures left { OnErr result (Told (S.view store.old) (λ image. ((S.view store.new).seen ≡ Some image) ⊎ ((S.view store.new).seen ≡ Some (with_file number (segment_file schema.now rows.now) image)))) }
     ensures damage { (damaged : Damaged) → IsErrOf result (outside.Damaged damaged) → (S.view store.old).seen ≡ None }
-    ensures cause { IsErrOf result outside.Fault → Rose (S.view store.old).faults (S.view store.new).faults }
+    ensures spends { Spends 1 0 (S.view store.old) (S.view store.new) }
+    ensures crash { Leaves Same (S.view store.old) (S.view store.new) }
+    ensures cause { HasOutsideCause (S.view store.old).faults (S.view store.new).faults result }
 {
+    // A count of faults fits a u64.
+    let _faults = store.faults();
     let reader = adopted_rows(alloc, store, schema, number, rows)?;
     let (reader, found) = read_rows(alloc, schema, number, reader, rows);
     store.give_back_reader(reader);

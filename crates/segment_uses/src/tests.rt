@@ -2,10 +2,12 @@ ghost use Rattle.std.specs.Prelude.{◌≡◌, None, IsTrue};
 ghost use Rattle.dev_traits.specs.Image.{file};
 ghost use Rattle.dev_traits.specs.View.{Told};
 
+use crate::fixtures::{reader_of, row, table, text};
+use crate::keeper::Keeper;
 use crate::write_and_read;
-use dev_memory::{Faults, Image, MemReader, MemStore};
-use dev_traits::{DevError, FileMaker, OutsideFault, Store};
-use pk_values::{Column, Kind, Octets, Row, Schema, Value};
+use dev_memory::{Faults, MemStore};
+use dev_traits::{DevError, OutsideFault, Store};
+use pk_values::{Octets, Row, Schema, Value};
 use segment_form::are_segment_rows;
 use segment_read::{attach, block, row_at, rows_of};
 use segment_write::write_segment;
@@ -13,46 +15,21 @@ use std::alloc::{AllocError, Global};
 use std::process::Abort;
 use std::test::Fail;
 
-fn column(alloc: Global, name: &[u8], kind: Kind, nullable: bool) -> Result<Column, AllocError> {
-    Ok(Column {
-        name: Octets::from_slice(alloc, name)?,
-        kind,
-        nullable,
-        default: None,
-    })
-}
-
-// A key k, a text v and a number n.
-fn table(rt: &impl Abort, alloc: Global) -> Result<Schema, Fail> {
-    let mut columns = Vec::new(alloc);
-    columns.push(column(alloc, b"k", Kind::Int, false)?)?;
-    columns.push(column(alloc, b"v", Kind::Varchar(4), true)?)?;
-    columns.push(column(alloc, b"n", Kind::BigInt, false)?)?;
-    Ok(Schema::new(columns, 1).expect(rt, "a table"))
-}
-
 // Each fourth text is NULL, and the others have one to three bytes.
-fn text(alloc: Global, key: u32) -> Result<Value, AllocError> {
+fn text_of(alloc: Global, key: u32) -> Result<Value, AllocError> {
     match key % 4 {
         0 => Ok(Value::Null),
-        1 => Ok(Value::Text(Octets::from_slice(alloc, b"a")?)),
-        2 => Ok(Value::Text(Octets::from_slice(alloc, b"bc")?)),
-        _ => Ok(Value::Text(Octets::from_slice(alloc, b"def")?)),
+        1 => text(alloc, b"a"),
+        2 => text(alloc, b"bc"),
+        _ => text(alloc, b"def"),
     }
-}
-
-fn row(alloc: Global, key: u32) -> Result<Row, AllocError> {
-    let mut cells = Vec::new(alloc);
-    cells.push(Value::Num(i128::from(key)))?;
-    cells.push(text(alloc, key)?)?;
-    cells.push(Value::Num(-i128::from(key)))?;
-    Ok(Row { cells })
 }
 
 fn rows_with_keys_below(alloc: Global, count: u32) -> Result<Vec<Row>, AllocError> {
     let mut rows = Vec::with_capacity(alloc, count as usize)?;
     for key in 0..count {
-        rows.push(row(alloc, key)?)?;
+        let number = i128::from(key);
+        rows.push(row(alloc, number, text_of(alloc, key)?, -number)?)?;
     }
     Ok(rows)
 }
@@ -62,68 +39,12 @@ fn are_same(rows: &[Row], found: &[Row]) -> bool {
         && rows.iter().zip(found).all(|(row, found)| row.cells.as_slice() == found.cells.as_slice())
 }
 
-// A maker that keeps the bytes of its file.
-#[derive(Drop)]
-struct Keeper {
-    bytes: Vec<u8>,
-    is_started: bool,
-}
-
-// Contracts see no bytes of this maker.
-impl FileMaker for Keeper {
-    type Sealed = Vec<u8>;
-
-    ghost use Rattle.std.specs.Prelude.{None};
-
-    ghost view = { λ m. record { made = None; is_started = m.is_started; faults = 0 } };
-
-    ghost sealed_bytes = { λ _. None };
-
-    fn faults(&self) -> u64 {
-        0
-    }
-
-    fn start(&mut self) -> Result<(), DevError> {
-        self.bytes.clear();
-        self.is_started = true;
-        Ok(())
-    }
-
-    fn add(&mut self, piece: &[u8]) -> Result<(), DevError> {
-        match self.bytes.extend_from_slice(piece) {
-            Ok(()) => Ok(()),
-            Err(_) => Err(DevError::Memory),
-        }
-    }
-
-    fn seal(&mut self) -> Result<Vec<u8>, DevError> {
-        match self.bytes.clone() {
-            Ok(bytes) => Ok(bytes),
-            Err(_) => Err(DevError::Memory),
-        }
-    }
-}
-
 // The file of these rows.
 fn file_of(rt: &impl Abort, alloc: Global, schema: &Schema, rows: &[Row]) -> Result<Octets, Fail> {
     assert!(rt; are_segment_rows(schema, rows));
-    let mut maker = Keeper {
-        bytes: Vec::new(alloc),
-        is_started: false,
-    };
+    let mut maker = Keeper::new(alloc, 0);
     let made = write_segment(alloc, &mut maker, schema, rows)?;
     Ok(Octets::from_vec(made.sealed))
-}
-
-fn reader_of(rt: &impl Abort, alloc: Global, file: Octets) -> Result<MemReader, Fail> {
-    let mut areas = Vec::new(alloc);
-    areas.push(Octets::from_vec(Vec::new(alloc)))?;
-    areas.push(Octets::from_vec(Vec::new(alloc)))?;
-    areas.push(Octets::from_vec(Vec::new(alloc)))?;
-    let mut files = Vec::new(alloc);
-    files.push((2, file))?;
-    let mut store = MemStore::of_image(alloc, Image { areas, files }, Faults::none(alloc))?;
-    Ok(store.reader(2).expect(rt, "a reader"))
 }
 
 #[test]
@@ -132,7 +53,7 @@ fn rows_are_read_back_as_they_were_written(rt: HostRuntime) -> Result<(), Fail> 
     let schema = table(&rt, alloc)?;
     for (count, last_block) in [(1, 1), (1_025, 1), (65_536, 1_024)] {
         let rows = rows_with_keys_below(alloc, count)?;
-        let reader = reader_of(&rt, alloc, file_of(&rt, alloc, &schema, &rows)?)?;
+        let reader = reader_of(&rt, alloc, file_of(&rt, alloc, &schema, &rows)?, &[])?;
         let Ok(mut segment) = attach(alloc, &schema, 2, reader) else {
             assert!(rt; false);
             return Ok(());

@@ -1,15 +1,9 @@
 -- What a maker of files goes through while a file is made.
-use Rattle.std.specs.Prelude.{◌≡◌, ℕ, ◌≤◌, List, ◌++◌, is_some, IsTrue, Result, IsErrOf}
+use Rattle.std.specs.Prelude.{◌≡◌, ℕ, List, ◌++◌, is_some, IsTrue, Result}
 use Rattle.std.specs.Option.{option_map}
-use Rattle.dev_traits.specs.Causes.{Rose}
+use Rattle.dev_traits.specs.Causes.{HasMakeCause}
 use Rattle.dev_traits.specs.Maker.{MakerView}
 use Rattle.dev_traits.specs.declared.faults.MakeFault.{MakeFault}
-use Rattle.dev_traits.specs.declared.faults.MakeFault.TheVariants.{StoreFault}
-
--- a fault of the maker is told only where its count rose; the count never falls
-pub record HasMakeCause {T : Type 0} (before now : ℕ) (result : Result T MakeFault) : Type 0 where
-  pub later : before ≤ now
-  pub failed : IsErrOf result StoreFault → Rose before now
 
 -- a file was begun, and where the maker tells its bytes these stand behind those that it had
 pub record Adds (bytes : List ℕ) (old new : MakerView) : Type 0 where

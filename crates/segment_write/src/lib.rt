@@ -6,6 +6,3 @@ mod pages;
 mod segments;
 
 pub use segments::{Made, write_segment};
-
-#[cfg(test)]
-mod tests;

@@ -2,7 +2,7 @@ ghost use Rattle.std.specs.Prelude.{◌≡◌, ℕ, List, Some, IfOk, IsTrue, is
 ghost use Rattle.column_page.specs.FooterReading.{FooterFits};
 ghost use Rattle.column_page.specs.Footers.{is_footer};
 ghost use Rattle.segment_form.specs.Segments.{AreSegmentRows, block_marks, blocks_of, footer_of, segment_file, tail_of};
-ghost use Rattle.segment_write.specs.Making.{Adds, HasMakeCause, MakeStep};
+ghost use Rattle.dev_traits.specs.Causes.{HasMakeCause};
 
 use crate::blocks::put_blocks;
 use crate::pages::put_u32;
@@ -11,10 +11,12 @@ use dev_traits::{FileMaker, MakeFault};
 use pk_values::{Items, Row, Schema};
 use std::alloc::{AllocError, Global};
 
-/// A segment that was made: the sealed file and its footer.
+/// A segment that was made.
 #[derive(Drop)]
 pub struct Made<X> {
+    /// The whole file, which a store adopts.
     pub sealed: X,
+    /// The footer that stands in the file.
     pub footer: Footer,
 }
 
@@ -48,8 +50,9 @@ fn tail(alloc: Global, footer: &Footer) -> Result<Vec<u8>, AllocError>
 /// had begun is dropped.
 ///
 /// # Errors
-/// `StoreFault` only where the maker failed and counted it, and `Memory`. The maker is then as it
-/// was left by the call of it that failed: begin the next file with `start`.
+/// `StoreFault` exactly where the maker failed, which it counted once. `Memory` where this call or
+/// the maker wants memory; nothing is counted then. After an error the maker may hold a part of the
+/// file: its next `start`, with which each call of this begins, drops that.
 pub fn write_segment<M: FileMaker>(
     alloc: Global,
     maker: &mut M,

@@ -15,7 +15,7 @@ loop-cell-preserved c =
     let head = 2 ∷ u16_bytes (length words) ++ concat words in
     let is : c.as_slice.result.now ≡ x = c.as_slice.ensures ∙ c.cell-item.is in
     let among : is_among c.as_slice.result.now words ≡ true = ap (λ (t : Cell). is_among t words) is ∙ each_among [] xs i c.cell-item.result c.loop-cell-test.true in
-    let stands : c.place.result ≡ place x words = c.place.ensures words c.in_ok-words.ensures among ∙ ap (λ (t : Cell). place t words) is in
+    let stands : c.place.result ≡ place x words = c.place.ensures words c.requires among ∙ ap (λ (t : Cell). place t words) is in
     c.in_ok-put_u16-2.ensures
     ∙ ap (λ (t : List ℕ). t ++ u16_bytes c.place.result) c.loop-cell.invariant
     ∙ ap (λ (n : ℕ). (head ++ places words (take i xs)) ++ u16_bytes n) stands

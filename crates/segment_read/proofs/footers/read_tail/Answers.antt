@@ -15,7 +15,7 @@ returns-in-Ok-clause-footer g c = λ file told.
     let size = g.met.R.SealedReader.size_is_told c.args.reader.now file told in
     let tail = tail_read file c.deref.result.now c.in_ok-bytes.bytes.items c.length-size.result c.from.result c.in-Some.len _
     c.length-size.ensures size c.from.ensures (rw c.in-Some.is at c.in_ok-len.ensures.fits) (rw c.in-Some.is at c.in_ok-len.ensures.told file told) c.deref.ensures.value c.in_ok-bytes.ensures.long
-    (c.in_ok-bytes.ensures.bytes file (c.in_ok-len.ensures.reading.same.bytes ∙ told)) in
+    (c.in_ok-bytes.ensures.bytes file ((rw c.in-Some.is at c.in_ok-len.ensures.read).same.bytes ∙ told)) in
     footer_there c.args.schema.now c.in-Ok.footer file c.deref.result.now _ c.in-Some.len tail c.in-Ok.ensures.footer.is
 
 pub returns-in-Ok-clause-only : goal.returns-in-Ok-clause-only
@@ -23,7 +23,7 @@ returns-in-Ok-clause-only g c = λ file told other has.
     let size = g.met.R.SealedReader.size_is_told c.args.reader.now file told in
     let tail = tail_read file c.deref.result.now c.in_ok-bytes.bytes.items c.length-size.result c.from.result c.in-Some.len _
     c.length-size.ensures size c.from.ensures (rw c.in-Some.is at c.in_ok-len.ensures.fits) (rw c.in-Some.is at c.in_ok-len.ensures.told file told) c.deref.ensures.value c.in_ok-bytes.ensures.long
-    (c.in_ok-bytes.ensures.bytes file (c.in_ok-len.ensures.reading.same.bytes ∙ told)) in
+    (c.in_ok-bytes.ensures.bytes file ((rw c.in-Some.is at c.in_ok-len.ensures.read).same.bytes ∙ told)) in
     c.in-Ok.ensures.footer.only other (footer_read c.args.schema.now other file c.deref.result.now _ c.in-Some.len tail has)
 
 pub returns-clause-damaged : goal.returns-clause-damaged
@@ -35,6 +35,6 @@ returns-clause-damaged g c =
     let size = g.met.R.SealedReader.size_is_told c.args.reader.now file told in
     let tail = tail_read file c.deref.result.now c.in_ok-bytes.bytes.items c.length-size.result c.from.result c.in-Some.len _
     c.length-size.ensures size c.from.ensures (rw c.in-Some.is at c.in_ok-len.ensures.fits) (rw c.in-Some.is at c.in_ok-len.ensures.told file told) c.deref.ensures.value c.in_ok-bytes.ensures.long
-    (c.in_ok-bytes.ensures.bytes file (c.in_ok-len.ensures.reading.same.bytes ∙ told)) in
+    (c.in_ok-bytes.ensures.bytes file ((rw c.in-Some.is at c.in_ok-len.ensures.read).same.bytes ∙ told)) in
     tail_shown c.args.schema.now file c.deref.result.now _ c.in-Some.len shown tail shows)
     c.in-Err.ensures.shown)

@@ -1,4 +1,4 @@
-use Rattle.std.proofs.Common.{◌≡◌, ◌+◌, ◌-◌, ◌≤◌, All, IsTrue, ℕ, List, [], refl, sym, subst, ap, ◌∙◌, arith, length, drop, replicate}
+use Rattle.std.proofs.Common.{◌≡◌, ◌-◌, ◌≤◌, All, IsTrue, ℕ, List, [], refl, sym, subst, ap, ◌∙◌, arith, length, drop}
 use Rattle.std.proofs.lemmas.List.{length-drop, length-replicate}
 use Rattle.std.proofs.lemmas.List.Elements.{All-replicate}
 use Rattle.std.proofs.lemmas.Result.{err_from_is_err_and}

@@ -1,5 +1,5 @@
 use Rattle.std.proofs.Common.{ap, sym, ◌∙◌, arith, length}
-use Rattle.segment_read.proofs.ColumnFacts.{length-marks_of}
+use Rattle.segment_form.proofs.Marks.{length-marks_of}
 use Rattle.segment_read.proofs.rows.read_rows.Goals.{then-count-eq0-via-then-count-eq0, then-count-eq0-via-else-count-eq0+then-count-gt1024, then-count-eq0-via-else-count-eq0+else-count-gt1024+then-marks-columns}
 use Rattle.segment_read.proofs.rows.read_rows.Goals as goal
 

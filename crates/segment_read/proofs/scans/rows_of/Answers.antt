@@ -2,14 +2,14 @@ use Rattle.std.proofs.Common.{◌≡◌, ◌∙◌, ℕ, ap, slice_get, sym, sub
 use Rattle.std.proofs.lemmas.Result.{err_from_is_err_and}
 use Rattle.column_page.specs.declared.footers.Footer.{Footer}
 use Rattle.segment_read.specs.Footers.{HasFooter}
-use Rattle.segment_read.proofs.Scanning.{known_still, one_block_more, rows_damage}
+use Rattle.segment_read.proofs.Scanning.{known_still, one_block_more, read_more, rows_damage}
 use Rattle.segment_read.specs.Rows.{AreRowsBefore}
 use Rattle.segment_read.proofs.Whole.{segment_of}
 use Rattle.segment_read.proofs.scans.rows_of.Goals as goal
 
 pub add_block-requires-clause-footer : goal.add_block-requires-clause-footer
 add_block-requires-clause-footer g c = λ file told.
-    subst (λ (f : Footer). HasFooter c.args.schema.now f file) (sym c.loop-b.invariant.kept) (c.requires file (sym c.loop-b.invariant.same.bytes ∙ told))
+    subst (λ (f : Footer). HasFooter c.args.schema.now f file) (sym c.loop-b.invariant.kept) (c.requires file (sym c.loop-b.invariant.counted.same.bytes ∙ told))
 
 pub returns-in_err-add_block-clause-damaged : goal.returns-in_err-add_block-clause-damaged
 returns-in_err-add_block-clause-damaged g c =
@@ -17,7 +17,7 @@ returns-in_err-add_block-clause-damaged g c =
     let inv = c.loop-b.invariant in
     rw (p.1, p.2) (rows_damage c.args.schema.now c.args.segment.now.footer c.loop-b.segment.footer c.args.segment.now.number c.loop-b.segment.number c.loop-b.b
     (g.R.SealedReader.view c.args.segment.now.reader) (g.R.SealedReader.view c.loop-b.segment.reader) c.loop-b.rows.items _
-    inv.kept inv.number inv.same.bytes (omega arith) inv.read c.in_err-add_block.ensures.damaged)
+    inv.kept inv.number inv.counted.same.bytes (omega arith) inv.read c.in_err-add_block.ensures.damaged)
 
 pub loop-b-preserved : goal.loop-b-preserved
 loop-b-preserved g c =
@@ -28,12 +28,9 @@ loop-b-preserved g c =
       rise = made.rise;
       number = made.number ∙ inv.number;
       kept = made.kept ∙ inv.kept;
-      same = record { bytes = made.reading.same.bytes ∙ inv.same.bytes; size = made.reading.same.size ∙ inv.same.size };
-      reads = omega (arith, made.reading.reads, inv.reads);
-      grows = omega (arith, made.reading.grows, inv.grows);
-      later = omega (arith, made.reading.later, inv.later);
+      counted = read_more c.loop-b.b _ _ _ inv.counted made.reading;
       read = λ file told. one_block_more c.args.schema.now c.args.segment.now.footer file c.loop-b.b c.loop-b.rows.items c.add_block.new.rows.items (inv.read file told) (omega arith)
-          (λ mark got. made.added file (inv.same.bytes ∙ told) mark (ap (λ (f : Footer). slice_get f.blocks c.loop-b.b) inv.kept ∙ got)) made.rise;
+          (λ mark got. made.added file (inv.counted.same.bytes ∙ told) mark (ap (λ (f : Footer). slice_get f.blocks c.loop-b.b) inv.kept ∙ got)) made.rise;
     }
 
 pub returns-clause-segment : goal.returns-clause-segment
@@ -44,4 +41,4 @@ returns-clause-segment g c = λ file told.
 
 pub returns-clause-known : goal.returns-clause-known
 returns-clause-known g c = known_still c.args.schema.now (g.R.SealedReader.view c.args.segment.now.reader) (g.R.SealedReader.view c.loop-b.segment.reader) c.args.segment.now.footer c.loop-b.segment.footer
-    c.requires c.loop-b.invariant.same.bytes c.loop-b.invariant.kept
+    c.requires c.loop-b.invariant.counted.same.bytes c.loop-b.invariant.kept

@@ -1,10 +1,9 @@
-use Rattle.std.proofs.Common.{◌≡◌, ◌+◌, ◌-◌, ◌^◌, ◌≤◌, All, IsTrue}
-use Rattle.std.specs.Prelude.{min}
+use Rattle.std.proofs.Common.{◌≡◌, All, IsTrue}
 use Rattle.pk_values.specs.Schemas.{fits_row}
-use Rattle.dev_traits.specs.Reader.{SameFile}
 use Rattle.segment_form.specs.Segments.{KeysRise}
 use Rattle.segment_read.specs.Reads.{Told}
 use Rattle.segment_read.specs.Rows.{AreRowsBefore}
+use Rattle.segment_read.proofs.Scanning.{ReadSoFar}
 use Rattle.segment_read.proofs.scans.rows_of.Given as goal
 
 abbrev pub invariant-loop-b : goal.invariant-loop-b
@@ -13,9 +12,6 @@ invariant-loop-b g l = record {
   rise : KeysRise l.schema l.rows.items;
   number : l.segment.number ≡ l.fn.segment.number;
   kept : l.segment.footer ≡ l.fn.segment.footer;
-  same : SameFile (g.R.SealedReader.view l.fn.segment.reader) (g.R.SealedReader.view l.segment.reader);
-  reads : (g.R.SealedReader.view l.segment.reader).reads ≤ (g.R.SealedReader.view l.fn.segment.reader).reads + l.b;
-  grows : min (g.R.SealedReader.view l.fn.segment.reader).reads (2 ^ 64 - 1) ≤ (g.R.SealedReader.view l.segment.reader).reads;
-  later : (g.R.SealedReader.view l.fn.segment.reader).faults ≤ (g.R.SealedReader.view l.segment.reader).faults;
+  counted : ReadSoFar l.b (g.R.SealedReader.view l.fn.segment.reader) (g.R.SealedReader.view l.segment.reader);
   read : Told (g.R.SealedReader.view l.fn.segment.reader) (λ file. AreRowsBefore l.schema l.fn.segment.footer file l.b l.rows.items);
 }

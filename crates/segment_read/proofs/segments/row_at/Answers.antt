@@ -1,4 +1,5 @@
 use Rattle.std.proofs.Common.{◌∙◌, refl, sym}
+use Rattle.segment_form.proofs.RowsInBlocks.{row_of}
 use Rattle.segment_read.proofs.FooterFacts.{no_row, row_inside}
 use Rattle.segment_read.proofs.segments.row_at.Goals as goal
 
@@ -13,3 +14,7 @@ returns-in-None-clause-damaged g c = rw c.fault_of.ensures (record {
       absurd (no_row c.args.schema.now c.args.segment.now.footer _ mark c.in_ok-rows.rows.items c.args.row c.args.segment.now.is_of_segment c.requires.there got
       (c.in_ok-rows.ensures.rows file told mark got) (sym c.take_row.ensures ∙ c.in-None.is));
 })
+
+pub returns-in-Some-clause-of_segment : goal.returns-in-Some-clause-of_segment
+returns-in-Some-clause-of_segment g c = λ file told rows is.
+    row_of c.args.row rows c.in_ok-rows.rows.items c.in-Some.row (c.in_ok-rows.ensures.of_segment file told rows is) (sym c.take_row.ensures ∙ c.in-Some.is)

@@ -1,25 +1,39 @@
-use Rattle.std.proofs.Common.{◌∙◌, ap, subst, option_map, Some, Option, List, ℕ}
-use Rattle.dev_traits.specs.Image.{with_file}
-use Rattle.dev_traits.specs.Reader.{Fresh}
+use Rattle.std.proofs.Common.{◌∙◌, ap, option_map}
+use Rattle.dev_traits.proofs.Moments.{leaves_still}
+use Rattle.dev_traits.specs.Image.{with_file, Same}
 use Rattle.segment_form.specs.Segments.{segment_file}
 use Rattle.segment_uses.proofs.Reading.{sealed_is, some_told}
 use Rattle.segment_uses.proofs.round_trips.adopted_rows.Goals as goal
 
-pub returns-in-Ok-clause-reader : goal.returns-in-Ok-clause-reader
-returns-in-Ok-clause-reader g c image told =
+pub returns-in-Ok-clause-bytes : goal.returns-in-Ok-clause-bytes
+returns-in-Ok-clause-bytes g c image told =
     let file = segment_file c.args.schema.now c.args.rows.now in
     let tells = g.met.S.Store.sealed_tells c.args.store.now c.in_ok-sealed.sealed (some_told _ image told) in
-    subst (λ (b : Option (List ℕ)). Fresh b (g.S.Reader.SealedReader.view c.in-Ok.reader)) (sealed_is _ file c.in_ok-sealed.ensures.sealed tells) c.in-Ok.ensures.reader
+    c.in-Ok.ensures.bytes ∙ sealed_is _ file c.in_ok-sealed.ensures.sealed tells
 
 pub returns-in-Ok-clause-kept : goal.returns-in-Ok-clause-kept
 returns-in-Ok-clause-kept g c image told =
     let file = segment_file c.args.schema.now c.args.rows.now in
     let tells = g.met.S.Store.sealed_tells c.args.store.now c.in_ok-sealed.sealed (some_told _ image told) in
     c.in-Ok.ensures.adopted file (sealed_is _ file c.in_ok-sealed.ensures.sealed tells)
-    ∙ ap (option_map (with_file c.args.number file)) (c.in_ok-room.ensures.calm.seen ∙ c.in_ok-sealed.ensures.seen ∙ told)
+    ∙ ap (option_map (with_file c.args.number file)) (c.in_ok-room.ensures.calm.seen ∙ c.in_ok-sealed.ensures.calm.seen ∙ told)
 
 pub returns-in-Ok-clause-durable : goal.returns-in-Ok-clause-durable
 returns-in-Ok-clause-durable g c image told =
     let file = segment_file c.args.schema.now c.args.rows.now in
     let tells = g.met.S.Store.sealed_tells c.args.store.now c.in_ok-sealed.sealed (some_told _ image told) in
     c.in-Ok.ensures.durable file (sealed_is _ file c.in_ok-sealed.ensures.sealed tells)
+
+pub returns-in_err-room-clause-crash : goal.returns-in_err-room-clause-crash
+returns-in_err-room-clause-crash g c =
+    leaves_still Same (g.S.Store.view c.args.store.now) (g.S.Store.view c.sealed_rows.new.store) (g.S.Store.view c.room.new.self) c.in_ok-sealed.ensures.calm.crash c.in_err-room.ensures.calm.crash
+
+pub returns-in-Ok-clause-crash : goal.returns-in-Ok-clause-crash
+returns-in-Ok-clause-crash g c =
+    leaves_still Same (g.S.Store.view c.args.store.now) (g.S.Store.view c.room.new.self) (g.S.Store.view c.adopt.new.self)
+    (leaves_still Same (g.S.Store.view c.args.store.now) (g.S.Store.view c.sealed_rows.new.store) (g.S.Store.view c.room.new.self) c.in_ok-sealed.ensures.calm.crash c.in_ok-room.ensures.calm.crash) c.in-Ok.ensures.crash
+
+pub returns-in-Err-clause-crash : goal.returns-in-Err-clause-crash
+returns-in-Err-clause-crash g c =
+    leaves_still Same (g.S.Store.view c.args.store.now) (g.S.Store.view c.room.new.self) (g.S.Store.view c.adopt.new.self)
+    (leaves_still Same (g.S.Store.view c.args.store.now) (g.S.Store.view c.sealed_rows.new.store) (g.S.Store.view c.room.new.self) c.in_ok-sealed.ensures.calm.crash c.in_ok-room.ensures.calm.crash) c.in-Err.ensures.crash

@@ -1,4 +1,5 @@
-use Rattle.segment_uses.proofs.Reading.{footer_undamaged, if_ok_so, read_same, rows_undamaged}
+use Rattle.segment_read.proofs.Scanning.{if_ok_so}
+use Rattle.segment_uses.proofs.Reading.{footer_undamaged, read_same, rows_undamaged}
 use Rattle.segment_uses.proofs.round_trips.read_rows.Goals as goal
 
 pub returns-in-Ok-clause-same : goal.returns-in-Ok-clause-same

@@ -38,5 +38,5 @@ loop-block-preserved g c =
       marks = ap (λ (marks : List BlockMark). marks ++ block_marks s next (blocks_of later)) (c.in_ok-push.ensures).ok ∙ marks_next s rest block later c.loop-block.marks _ mark c.loop-block.place next blocks told there inv.marks;
       low = omega (arith, inv.low, c.from.ensures, length-append block later);
       tells = step.tells ∙ inv.tells;
-      later = omega (arith, inv.later, step.cause.later);
+      unfailed = step.cause.well (λ e. cc) ∙ inv.unfailed;
     }

@@ -21,5 +21,5 @@ invariant-loop-block g l =
       marks : l.marks ++ block_marks l.schema l.place (blocks_of rest) ≡ block_marks l.schema 0 (blocks_of l.rows);
       low : l.place + length rest * 2 ^ 33 ≤ 65536 * 2 ^ 33;
       tells : is_some (view l.maker).made ≡ is_some (view l.initial.maker).made;
-      later : (view l.initial.maker).faults ≤ (view l.maker).faults;
+      unfailed : (view l.maker).faults ≡ (view l.initial.maker).faults;
     }

@@ -1,12 +1,12 @@
 use Rattle.std.proofs.Common.{◌≡◌, length, List, ℕ, ap, ◌∙◌, arith}
 use Rattle.column_page.specs.Footers.{footer_bytes}
-use Rattle.segment_form.proofs.Tails.{footer_long}
+use Rattle.column_page.proofs.FooterParts.{footer_short}
 use Rattle.segment_write.proofs.segments.tail.Goals as goal
 
 pub overflow_cast-length : goal.overflow_cast-length
 overflow_cast-length c =
     let footer = c.args.footer.now in
     let tail = c.into_vec-tail.result in
-    let short = footer_long footer c.requires.fits c.requires.is_footer in
+    let short = footer_short footer c.requires.is_footer in
     let same : length tail.items ≡ length (footer_bytes footer) = ap (λ (bytes : List ℕ). length bytes) (c.into_vec-tail.ensures ∙ c.in_ok-write_footer.ensures) in
     omega (arith, tail.ok.0, c.len-length.ensures)

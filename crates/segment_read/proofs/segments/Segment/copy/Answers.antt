@@ -12,4 +12,4 @@ returns-clause-known g c = λ s known.
 
 pub returns-clause-copy_known : goal.returns-clause-copy_known
 returns-clause-copy_known g c = λ s known.
-    known_still s (g.R.SealedReader.view c.args.self.now.reader) (g.R.SealedReader.view c.in_ok-reader.reader) c.args.self.now.footer c.in_ok-footer.footer known c.in_ok-reader.ensures.fresh.same c.in_ok-footer.ensures
+    known_still s (g.R.SealedReader.view c.args.self.now.reader) (g.R.SealedReader.view c.in_ok-reader.reader) c.args.self.now.footer c.in_ok-footer.footer known c.in_ok-reader.ensures.file.bytes c.in_ok-footer.ensures
