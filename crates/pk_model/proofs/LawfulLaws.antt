@@ -1,5 +1,5 @@
 -- A lawful load leaves each row under its key.
-use Rattle.std.proofs.Common.{◌≡◌, refl, ap, sym, ◌∙◌, ℕ, ◌+◌, ◌≤◌, suc, zero, arith, List, [], ◌∷◌, ◌++◌, length, take, drop, map, slice_set, Option, Some, None, cond, Bool as Truth, true, false, ◌&&◌, nat_le, nat_lt}
+use Rattle.std.proofs.Common.{◌≡◌, refl, ap, sym, ◌∙◌, ℕ, ◌+◌, ◌≤◌, suc, zero, arith, List, [], ◌∷◌, ◌++◌, length, take, drop, map, slice_set, Option, Some, None, cond, true, false, ◌&&◌, nat_le, nat_lt}
 use Rattle.std.specs.List.{list_all}
 use Rattle.std.specs.Ordering.{eq_by_cmp, is_eq}
 use Rattle.std.specs.FinMap.{get}
@@ -14,18 +14,11 @@ use Rattle.pk_model.specs.declared.calls.Op.TheVariants.{Upsert, Delete}
 use Rattle.pk_model.specs.Tables.{Rows, act, after_lines, key_named, with_cells, new_row, default_cell}
 use Rattle.pk_model.specs.Lawful.{rise_within, fits_line, fits_given}
 use Rattle.pk_model.specs.Laws.{row_after, KeysStandFirst, LawfulKeepsKeys, DeletedThenNew}
+use Rattle.pk_model.proofs.CellLaws.{first_true, second_true}
 use Rattle.pk_model.proofs.LoadLaws.{get-act}
 use Rattle.pk_model.proofs.RunLaws.{equal}
 use Rattle.std.specs.Cmp.{tied_itself}
 use borrow.Author.Tests.{leb-true}
-
-first_true : (a b : Truth) → (a && b) ≡ true → a ≡ true
-first_true true b h = refl
-first_true false b h = h
-
-second_true : (a b : Truth) → (a && b) ≡ true → b ≡ true
-second_true true b h = h
-second_true false b h = cc
 
 -- a write past the key leaves it
 take-past : (n : ℕ) (row : List Value) (c : ℕ) (v : Value) → n ≤ c → take n (slice_set row c v) ≡ take n row

@@ -18,16 +18,13 @@ use Rattle.pk_model.specs.declared.calls.Op.TheVariants.{Upsert, Delete}
 use Rattle.pk_model.specs.Tables.{key_named, is_upsert, touches, writes}
 use Rattle.pk_model.specs.Laws.{row_after, result_for}
 use Rattle.pk_model.specs.Merges.{rise, names_next}
+use Rattle.pk_model.proofs.CellLaws.{neither}
 use Rattle.pk_model.proofs.RunLaws.{first, second}
 use Rattle.pk_model.proofs.LoadLaws.{get-after}
 use Rattle.pk_model.proofs.MergeLaws.{before, rise-next, same-sorted}
 
-neither : (b c : Truth) → (b || c) ≡ false → (b ≡ false) × (c ≡ false)
-neither false c h = (refl, h)
-neither true c h = cc
-
 -- lines that don't name a key leave its row
-unnamed : (s : Layout) (given : List ℕ) (ops : List Op) (key : List Value) (old : Option (List Value))
+pub unnamed : (s : Layout) (given : List ℕ) (ops : List Op) (key : List Value) (old : Option (List Value))
     → list_any (eq_by_cmp key_cmp key) (touches ops) ≡ false → result_for s given ops key old ≡ old
 unnamed s given [] key old h = refl
 unnamed s given (op ∷ ops) key old h =
@@ -48,7 +45,7 @@ upserted s given (Upsert key cells) ops old h =
     flipped false e = refl
 
 -- where lines write, some key has a row after them, whatever stood there
-wrote : (s : Layout) (given : List ℕ) (ops : List Op) → writes ops ≡ true → (key : List Value) × ((old : Option (List Value)) → is_some (result_for s given ops key old) ≡ true)
+pub wrote : (s : Layout) (given : List ℕ) (ops : List Op) → writes ops ≡ true → (key : List Value) × ((old : Option (List Value)) → is_some (result_for s given ops key old) ≡ true)
 wrote s given [] h = cc
 wrote s given (op ∷ ops) h =
     let is_last : Truth = is_upsert op && not (list_any (eq_by_cmp key_cmp (key_named op)) (touches ops)) in
@@ -58,7 +55,7 @@ wrote s given (op ∷ ops) h =
     ] refl h
 
 -- where they don't write, each key that has a row after them had one before, and they don't name it
-held : (s : Layout) (given : List ℕ) (ops : List Op) (key : List Value) (old : Option (List Value))
+pub held : (s : Layout) (given : List ℕ) (ops : List Op) (key : List Value) (old : Option (List Value))
     → is_some (result_for s given ops key old) ≡ true → writes ops ≡ false → (is_some old ≡ true) × (list_any (eq_by_cmp key_cmp key) (touches ops) ≡ false)
 held s given [] key old h w = (h, refl)
 held s given (op ∷ ops) key old h w =

@@ -1,5 +1,6 @@
 //! What holds of every load, book and history: functions that do nothing, each of which a clause gives its law.
-ghost use Rattle.pk_model.specs.Laws.{CurrentRows, DeletedThenNew, EndLeavesRows, ExpiryDrops, ExpiryKeepsVersion, LawfulKeepsKeys, LegalGoesOn, NewVersion, OlderStay, OneResultPerKey, PrefixIsLegal, ReplayGoesOn};
+ghost use Rattle.pk_model.specs.Books.{new_book, FewVersions};
+ghost use Rattle.pk_model.specs.Laws.{CarriedCells, ClosedStays, CurrentRows, DeletedThenNew, ElseOnlyTakes, EndLeavesRows, ExpiryDrops, ExpiryKeepsVersion, FewStay, KeysRise, LastLineActs, LawfulKeepsKeys, LegalGoesOn, LoadMakesOne, NewVersion, NumbersAreFew, OlderStay, OpensKept, OneResultPerKey, OtherCells, OtherKeys, PrefixIsLegal, RefusalsLeave, ReplayGoesOn, RowsTellKeys, WriteLeavesRow};
 
 /// A load line by line gives each key the result of its own lines.
 pub fn one_result_per_key()
@@ -8,18 +9,40 @@ pub fn one_result_per_key()
 
 /// What a load does to single rows.
 pub fn rows_of_a_load()
+    ensures last_line { LastLineActs }
     ensures new_after_delete { DeletedThenNew }
+    ensures other_keys { OtherKeys }
     ensures keys_first { LawfulKeepsKeys }
+{}
+
+/// What an upsert does to single cells.
+pub fn cells_of_a_line()
+    ensures carried { CarriedCells }
+    ensures other { OtherCells }
+{}
+
+/// Which loads leave a row of their own.
+pub fn loads_that_write()
+    ensures row { WriteLeavesRow }
+    ensures only_takes { ElseOnlyTakes }
+{}
+
+/// Which rows a table has.
+pub fn rows_of_a_table()
+    ensures keys_rise { KeysRise }
+    ensures rows_tell_keys { RowsTellKeys }
 {}
 
 /// Which rows each version has after a call.
 pub fn versions()
+    ensures one_more { LoadMakesOne }
     ensures current { CurrentRows }
     ensures new { NewVersion }
     ensures older { OlderStay }
     ensures compaction { EndLeavesRows }
     ensures expiry { ExpiryDrops }
     ensures kept { ExpiryKeepsVersion }
+    ensures opens { OpensKept }
 {}
 
 /// What holds of every history.
@@ -27,4 +50,13 @@ pub fn histories()
     ensures goes_on { ReplayGoesOn }
     ensures prefix { PrefixIsLegal }
     ensures legal { LegalGoesOn }
+    ensures closed { ClosedStays }
+    ensures refusals { RefusalsLeave }
+{}
+
+/// How far the numbers of a book go.
+pub fn numbers()
+    ensures new_book { FewVersions new_book }
+    ensures few_versions { FewStay }
+    ensures counts { NumbersAreFew }
 {}

@@ -1,10 +1,10 @@
-ghost use Rattle.std.specs.Prelude.{◌≡◌, ◌<◌, ◌≤◌, ◌^◌, ◌+◌, IfOk, OnOk, OnErr};
+ghost use Rattle.std.specs.Prelude.{◌≡◌, ◌<◌, ◌≤◌, ◌^◌, ◌+◌, IfOk, OnOk, OnErr, None, false};
 ghost use Rattle.std.specs.Option.{option_copied};
-ghost use Rattle.pk_model.specs.Books.{answer, answer_begin, answer_end, answer_expire, answer_give_up, change, change_begin, change_end, change_expire, change_give_up, open_answer, open_change, plan_at, version};
+ghost use Rattle.pk_model.specs.Books.{answer, answer_begin, answer_end, answer_expire, answer_give_up, answer_load, change, change_begin, change_end, change_expire, change_give_up, change_load, greatest_number, is_full, open_answer, open_change, plan_at, version, GivesWay, MayReply, TakesMemory};
 
 use crate::answers::{open, stat};
 use crate::books::{Book, Plan};
-use crate::calls::{Call, Reply};
+use crate::calls::{Call, Load, Reply};
 use crate::copies::without_first;
 use crate::publishing::{more_rowsets, publish};
 use pk_values::{Items, Schema};
@@ -13,7 +13,8 @@ use std::mem;
 
 /// Does a call at a place of a history, as a tablet with no device would: the reply is the answer of the book, and the book after it is the definition's. It is plain and slow, for trials of what is fast.
 ///
-/// An error says that memory is wanted, or that the number of rowsets has come to the end of its type. It leaves the book as it was.
+/// # Errors
+/// Want of memory, which leaves the book as it was. It comes of a load or a `Begin` alone, and only of one that the book does not refuse.
 pub fn step(
     alloc: Global,
     schema: &Schema,
@@ -21,11 +22,13 @@ pub fn step(
     place: u64,
     call: &Call,
 ) -> Result<Reply, AllocError>
-    requires { version book.old < 2 ^ 62 }
+    requires { greatest_number book.old < 2 ^ 62 }
     ensures answers { IfOk result (λ reply. reply ≡ answer book.old call.now) }
     ensures changes { OnOk result (book.new ≡ change schema.now book.old place call.now) }
     ensures err { OnErr result (book.new ≡ book.old) }
-    ensures grows { version book.new ≤ version book.old + 1 }
+    ensures takes { OnErr result (TakesMemory call.now) }
+    ensures may_want { OnErr result (MayReply book.old call.now Reply.Memory) }
+    ensures grows { greatest_number book.new ≤ greatest_number book.old + 1 }
 {
     match book.closed {
         Some(closed) => Ok(Reply::Closed(closed)),
@@ -41,20 +44,41 @@ fn open_step(
     place: u64,
     call: &Call,
 ) -> Result<Reply, AllocError>
-    requires { version book.old < 2 ^ 62 }
+    requires { greatest_number book.old < 2 ^ 62 }
     ensures answers { IfOk result (λ reply. reply ≡ open_answer book.old call.now) }
     ensures changes { OnOk result (book.new ≡ open_change schema.now book.old place call.now) }
     ensures err { OnErr result (book.new ≡ book.old) }
+    ensures takes { OnErr result (TakesMemory call.now) }
+    ensures gives_way { OnErr result (GivesWay (open_answer book.old call.now) Reply.Memory) }
 {
     match call {
-        Call::Load(load) => publish(alloc, schema, book, load.copy(alloc)?),
+        Call::Load(load) => publish_copy(alloc, schema, book, load),
         Call::Open(want) => Ok(open(book, *want)),
         Call::Begin => begin(alloc, book, place),
-        Call::End(begun) => end(book, *begun),
+        Call::End(begun) => Ok(end(book, *begun)),
         Call::GiveUp(begun) => Ok(give_up(book, *begun)),
         Call::Expire(floor) => Ok(expire(alloc, book, *floor)),
         Call::Stat => Ok(stat(book)),
     }
+}
+
+// Does a load of an open book, which is copied only where the book takes it.
+fn publish_copy(
+    alloc: Global,
+    schema: &Schema,
+    book: &mut Book,
+    load: &Load,
+) -> Result<Reply, AllocError>
+    requires { greatest_number book.old < 2 ^ 62 }
+    ensures answers { IfOk result (λ reply. reply ≡ answer_load book.old) }
+    ensures changes { OnOk result (book.new ≡ change_load schema.now book.old load.now) }
+    ensures err { OnErr result (book.new ≡ book.old) }
+    ensures room { OnErr result (is_full book.old ≡ false) }
+{
+    if book.is_full() {
+        return Ok(Reply::ManyVersions);
+    }
+    publish(alloc, schema, book, load.copy(alloc)?)
 }
 
 fn begin(alloc: Global, book: &mut Book, place: u64) -> Result<Reply, AllocError>
@@ -62,6 +86,7 @@ fn begin(alloc: Global, book: &mut Book, place: u64) -> Result<Reply, AllocError
     ensures answers { IfOk result (λ reply. reply ≡ answer_begin book.old book.old.plan) }
     ensures changes { OnOk result (book.new ≡ change_begin book.old place book.old.plan) }
     ensures err { OnErr result (book.new ≡ book.old) }
+    ensures free { OnErr result (book.old.plan ≡ None) }
 {
     if let Some(plan) = &book.plan {
         return Ok(Reply::Busy(plan.version));
@@ -78,27 +103,27 @@ fn begin(alloc: Global, book: &mut Book, place: u64) -> Result<Reply, AllocError
     Ok(Reply::Begun(version))
 }
 
-fn end(book: &mut Book, begun: u64) -> Result<Reply, AllocError>
-    ensures answers { IfOk result (λ reply. reply ≡ answer_end book.old (plan_at book.old.plan begun)) }
-    ensures changes { OnOk result (book.new ≡ change_end book.old (plan_at book.old.plan begun)) }
-    ensures err { OnErr result (book.new ≡ book.old) }
+fn end(book: &mut Book, begun: u64) -> Reply
+    requires { book.old.rowsets < 2 ^ 62 }
+    ensures answers { result ≡ answer_end book.old (plan_at book.old.plan begun) }
+    ensures changes { book.new ≡ change_end book.old (plan_at book.old.plan begun) }
 {
     let Some(plan) = plan_at(&book.plan, begun) else {
-        return Ok(Reply::NoPlan);
+        return Reply::NoPlan;
     };
     let before = book.rowsets;
     let left = before.saturating_sub(plan.rowsets);
     let rows = plan.rows.len() as u64;
-    let after = more_rowsets(left, rows != 0)?;
+    let after = more_rowsets(left, rows != 0);
     let late = plan.late();
     book.rowsets = after;
     book.plan = None;
-    Ok(Reply::Compacted {
+    Reply::Compacted {
         before,
         after,
         rows,
         late,
-    })
+    }
 }
 
 fn give_up(book: &mut Book, begun: u64) -> Reply

@@ -2,7 +2,9 @@
 //!
 //! Whoever takes a turn has the value alone, does one act on it and adds one entry to the history of the lock. The history is
 //! nowhere stored: contracts see in each pass how much of it the holder knows. Places in the history are numbered from 1.
-ghost use Rattle.std.specs.Prelude.{◌≡◌, ◌+◌, ◌-◌, ◌^◌, ◌<◌, ◌≤◌, List, [], ◌∷◌, ◌++◌, length, Option, Some, None, IfOk, IfErr};
+//!
+//! Each call asks that the passes that it gets are of this book, as those are that `new` and `split` of this book gave.
+ghost use Rattle.std.specs.Prelude.{◌≡◌, ◌+◌, ◌-◌, ◌^◌, ◌<◌, ◌≤◌, List, [], ◌∷◌, ◌++◌, length, Option, Some, None, IfOk, IfErr, IsOk};
 ghost use mathlib.Core.List.{IsPrefix};
 ghost use Rattle.turn_book.specs.Places.{RiseUpTo, places_after};
 ghost use Rattle.turn_book.specs.Passes.{Booking, Holding, IsOf, blank, share, less, Both};
@@ -135,10 +137,26 @@ impl<T: Replayed> TurnBook<T> {
         }
     }
 
-    /// Cuts a number of turns off, for another caller, who has seen the same and made no call.
+    // Moves a number of turns to a new pass. A seat at the table takes no memory.
+    fn part(&self, pass: &mut Pass<T>, turns: u64) -> Pass<T>
+        requires book { IsOf self.now pass.old }
+        requires turns { turns ≤ pass.old.left }
+        ensures kept { pass.new ≡ less turns pass.old }
+        ensures given { result ≡ share turns pass.old }
+    {
+        let seat = cut::<T, Brand>(&self.table.shared, &mut pass.seat, turns);
+        pass.left -= turns;
+        Pass {
+            seat,
+            left: turns,
+            used: 0,
+        }
+    }
+
+    /// Moves a number of turns to a new pass, for another caller, who has seen the same and made no call.
     ///
     /// # Errors
-    /// Want of memory. The pass is then as before.
+    /// None comes, since a pass takes no memory.
     pub fn split(
         &self,
         _alloc: Global,
@@ -147,18 +165,11 @@ impl<T: Replayed> TurnBook<T> {
     ) -> Result<Pass<T>, AllocError>
         requires book { IsOf self.now pass.old }
         requires turns { turns ≤ pass.old.left }
-        ensures kept { IfOk result (λ _. pass.new ≡ less turns pass.old) }
+        ensures always { IsOk result }
+        ensures kept { pass.new ≡ less turns pass.old }
         ensures given { IfOk result (λ p. p ≡ share turns pass.old) }
-        ensures none { IfErr result (λ _. pass.new ≡ pass.old) }
     {
-        // A seat at the table takes no memory.
-        let seat = cut::<T, Brand>(&self.table.shared, &mut pass.seat, turns);
-        pass.left -= turns;
-        Ok(Pass {
-            seat,
-            left: turns,
-            used: 0,
-        })
+        Ok(self.part(pass, turns))
     }
 
     /// Waits for a turn, plays the act on the value, and answers the place of its entry in the history, with the act's reply.
@@ -204,40 +215,33 @@ impl<T: Replayed> TurnBook<T> {
     /// Each of two passes takes in what the other has seen. Calls and turns stay where they are.
     ///
     /// # Errors
-    /// Want of memory. Both passes are then as before.
+    /// None comes, since a pass takes no memory.
     pub fn meet(
         &self,
-        alloc: Global,
+        _alloc: Global,
         first: &mut Pass<T>,
         second: &mut Pass<T>,
     ) -> Result<(), AllocError>
         requires first { IsOf self.now first.old }
         requires second { IsOf self.now second.old }
         ensures book { IsOf self.now first.new × IsOf self.now second.new }
-        ensures one { IfOk result (λ _. first.new.seen ≡ second.new.seen) }
-        ensures none { IfErr result (λ _. (first.new ≡ first.old) × (second.new ≡ second.old)) }
-        ensures legal { IfOk result (λ _. T.legal self.now.opening first.new.seen) }
+        ensures always { IsOk result }
+        ensures one { first.new.seen ≡ second.new.seen }
+        ensures legal { T.legal self.now.opening first.new.seen }
         ensures begins { IsPrefix first.old.seen first.new.seen × IsPrefix second.old.seen second.new.seen }
         ensures calls { (first.new.mine ≡ first.old.mine) × (second.new.mine ≡ second.old.mine) }
         ensures turns { (first.new.left ≡ first.old.left) × (second.new.left ≡ second.old.left) }
     {
         // A copy of each, with no turns, goes into the other.
-        let copy = self.split(alloc, first, 0)?;
-        match self.split(alloc, second, 0) {
-            Ok(other) => {
-                self.join(first, other);
-                self.join(second, copy);
-                Ok(())
-            }
-            Err(failed) => {
-                self.join(first, copy);
-                Err(failed)
-            }
-        }
+        let copy = self.part(first, 0);
+        let other = self.part(second, 0);
+        self.join(first, other);
+        self.join(second, copy);
+        Ok(())
     }
 
-    /// Ends the history and gives the value back. The pass has used all turns but those that it has left, so it has seen the whole
-    /// history, and each call there is its own.
+    /// Ends the history and gives the value back. The turns that the pass has left and the calls that are its own are together all turns of the book, so no
+    /// other pass has either, this one has seen the whole history, and each call there is its own.
     pub fn close(self, pass: Pass<T>) -> T
         requires book { IsOf self pass }
         requires turns { pass.left + length pass.mine ≡ self.turns }

@@ -13,6 +13,7 @@ use std::marker::Brand;
 use std::snapshot::Snapshot;
 use std::sync::Wait;
 
+/// The table as those who take turns share it.
 pub type Board<T> = Shared<
     Option<T>,
     View<<T as Replayed>::Entry, <T as Replayed>::Opening>,
@@ -20,6 +21,7 @@ pub type Board<T> = Shared<
     InTurn<T>,
 >;
 
+/// A seat at the table, which a pass holds.
 pub type Place<T> = Seat<Option<T>, View<<T as Replayed>::Entry, <T as Replayed>::Opening>>;
 
 // Takes a ticket.
@@ -173,6 +175,7 @@ pub(crate) fn glue<T: Replayed>(board: &Board<T>, seat: &mut Place<T>, other: Pl
     look(board, seat);
 }
 
+/// The table.
 pub type Desk<T> = Table<
     Option<T>,
     View<<T as Replayed>::Entry, <T as Replayed>::Opening>,

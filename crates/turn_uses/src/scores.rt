@@ -10,13 +10,19 @@ use turn_book::replayed::{Act, Replayed};
 pub enum Score {
     /// This score was handed in.
     Submitted(u64),
-    /// This score, which had been handed in, was found to be so far behind the best.
-    Compared { score: u64, behind: u64 },
+    /// A score that had been handed in was found to be so far behind the best.
+    Compared {
+        /// The score.
+        score: u64,
+        /// The best at that turn less the score.
+        behind: u64,
+    },
 }
 
 /// The best of the scores that were handed in.
 #[derive(Debug, Drop)]
 pub struct Best {
+    /// The best score.
     pub score: u64,
 }
 
@@ -43,6 +49,7 @@ impl Replayed for Best {
 /// Hands a score in.
 #[derive(Debug, Drop)]
 pub struct Submit {
+    /// The score.
     pub score: u64,
 }
 
@@ -67,7 +74,9 @@ impl Act<Best> for Submit {
 /// Answers how far a score is behind the best. The caller has seen it handed in, at this place.
 #[derive(Debug, Drop)]
 pub struct Compare {
+    /// The score.
     pub score: u64,
+    /// The place of the turn in which it was handed in.
     pub place: u64,
 }
 

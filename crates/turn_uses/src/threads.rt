@@ -22,8 +22,8 @@ fn count_alone<R: Wait>(rt: &R, book: &TurnBook<Counter>, mut pass: Pass<Counter
     pass
 }
 
-// Takes all turns that the pass has left, in so many threads. Where no pass can be cut off, one thread takes them all.
-fn count_beside<R: Threads + Wait + Sync>(
+/// Takes all turns that the pass has left, in so many threads; 0 counts as 1. How many run at once no clause says.
+pub fn count_beside<R: Threads + Wait + Sync>(
     rt: &R,
     alloc: Global,
     book: &TurnBook<Counter>,

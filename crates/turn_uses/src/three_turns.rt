@@ -1,5 +1,5 @@
 //! A counter with three turns, of which two callers take one each.
-ghost use Rattle.std.specs.Prelude.{◌≡◌, ◌+◌, ◌<◌, ◌⊎◌, [], ◌∷◌, IfOk};
+ghost use Rattle.std.specs.Prelude.{◌≡◌, ◌+◌, ◌<◌, ◌⊎◌, [], ◌∷◌, IfOk, IsOk};
 ghost use Rattle.turn_book.specs.Passes.{IsOf};
 ghost use Rattle.turn_uses.specs.Standing.{StandsAt};
 
@@ -10,20 +10,27 @@ use std::thread;
 use std::thread::Threads;
 use turn_book::book::{Pass, TurnBook};
 
-/// The place of a turn in the history, and the number that was drawn in it.
+/// One turn.
 #[derive(Clone, Copy, Debug)]
 pub struct Drawn {
+    /// Its place in the history, from 1.
     pub place: u64,
+    /// The number that was drawn in it.
     pub number: u64,
 }
 
-/// The places of the two turns, what the joined pass tells, and where the counter ended.
+/// What two turns of three came to.
 #[derive(Debug, Drop)]
 pub struct TwoOfThree {
+    /// The place of the first caller's turn.
     pub first: u64,
+    /// The place of the second caller's turn.
     pub second: u64,
+    /// The turns that the joined pass has left.
     pub left: u64,
+    /// The number of calls of the joined pass.
     pub used: u64,
+    /// Where the counter ended.
     pub value: u64,
 }
 
@@ -56,8 +63,9 @@ fn meet_both(
     requires first { StandsAt first.old.seen _mine.place _mine.number }
     requires second { StandsAt second.old.seen _theirs.place _theirs.number }
     ensures book { IsOf book.now first.new × IsOf book.now second.new }
-    ensures first { IfOk result (λ _. StandsAt first.new.seen _mine.place _mine.number × StandsAt first.new.seen _theirs.place _theirs.number) }
-    ensures one { IfOk result (λ _. first.new.seen ≡ second.new.seen) }
+    ensures always { IsOk result }
+    ensures first { StandsAt first.new.seen _mine.place _mine.number × StandsAt first.new.seen _theirs.place _theirs.number }
+    ensures one { first.new.seen ≡ second.new.seen }
     ensures calls { (first.new.mine ≡ first.old.mine) × (second.new.mine ≡ second.old.mine) }
     ensures left { (first.new.left ≡ first.old.left) × (second.new.left ≡ second.old.left) }
 {

@@ -1,4 +1,4 @@
-use Rattle.pk_model.proofs.HistoryLaws.{replay-append, legal-prefix, legal-more}
+use Rattle.pk_model.proofs.HistoryLaws.{closed-stays, refusals-leave, replay-append, legal-prefix, legal-more}
 use Rattle.pk_model.proofs.laws.histories.Goals as goal
 
 pub returns-clause-goes_on : goal.returns-clause-goes_on
@@ -9,3 +9,9 @@ returns-clause-prefix c = legal-prefix
 
 pub returns-clause-legal : goal.returns-clause-legal
 returns-clause-legal c = legal-more
+
+pub returns-clause-closed : goal.returns-clause-closed
+returns-clause-closed c = closed-stays
+
+pub returns-clause-refusals : goal.returns-clause-refusals
+returns-clause-refusals c = refusals-leave

@@ -1,3 +1,4 @@
+use Rattle.pk_model.proofs.VersionLaws.{load-makes-one}
 use Rattle.pk_model.proofs.VersionLaws as law
 use Rattle.pk_model.proofs.laws.versions.Goals as goal
 
@@ -18,3 +19,9 @@ returns-clause-expiry c = law.expiry-drops
 
 pub returns-clause-kept : goal.returns-clause-kept
 returns-clause-kept c = law.expiry-keeps-version
+
+pub returns-clause-one_more : goal.returns-clause-one_more
+returns-clause-one_more c = load-makes-one
+
+pub returns-clause-opens : goal.returns-clause-opens
+returns-clause-opens c = law.opens-kept
