@@ -18,7 +18,7 @@ use Rattle.load_csv.specs.Lines.{cell_at, cell_in, cells_of, if_fits, is_read, n
 -- ---- tests
 
 -- two equal numbers
-same_number : (a b : ℕ) → (a == b) ≡ true → a ≡ b
+pub same_number : (a b : ℕ) → (a == b) ≡ true → a ≡ b
 same_number a b h = grind (arith, h)
 
 pub equal_itself : (a : ℕ) → (a == a) ≡ true
@@ -44,12 +44,12 @@ both a b h g = rw (h, g) refl
 
 -- ---- one written place of a list
 
-get-set : {X : Type 0} (xs : List X) (i : ℕ) (v : X) → i < length xs → slice_get (slice_set xs i v) i ≡ Some v
+pub get-set : {X : Type 0} (xs : List X) (i : ℕ) (v : X) → i < length xs → slice_get (slice_set xs i v) i ≡ Some v
 get-set [] i v h = absurd (omega arith)
 get-set (x ∷ xs) zero v h = refl
 get-set (x ∷ xs) (suc i) v h = get-set xs i v (omega arith)
 
-get-set_other : {X : Type 0} (xs : List X) (i k : ℕ) (v : X) → k ≢ i → slice_get (slice_set xs i v) k ≡ slice_get xs k
+pub get-set_other : {X : Type 0} (xs : List X) (i k : ℕ) (v : X) → k ≢ i → slice_get (slice_set xs i v) k ≡ slice_get xs k
 get-set_other [] i k v h = refl
 get-set_other (x ∷ xs) zero zero v h = absurd (h refl)
 get-set_other (x ∷ xs) zero (suc k) v h = refl
@@ -66,7 +66,7 @@ get-drop zero xs k = let same : k ≡ zero + k = omega arith in ap (slice_get xs
 get-drop (suc n) [] k = refl
 get-drop (suc n) (y ∷ xs) k = let same : suc (n + k) ≡ suc n + k = omega arith in get-drop n xs k ∙ ap (slice_get (y ∷ xs)) same
 
-length-no_cells : (s : Layout) → length (no_cells s) ≡ length s.columns
+pub length-no_cells : (s : Layout) → length (no_cells s) ≡ length s.columns
 length-no_cells s = length-map s.columns _
 
 -- ---- the cells of a row
@@ -167,7 +167,7 @@ read-holds s n delete c k col cells final (f ∷ fields) (t ∷ texts) g r l w h
         later more step.width step.there e
 
 -- a row has as many cells as there are columns
-with_field-width : (s : Layout) (n : ℕ) (delete : Bool) (c : ℕ) (cells more : List Value) (f : Field) (text : List ℕ) → with_field s n delete c cells f text ≡ Ok more → length more ≡ length cells
+pub with_field-width : (s : Layout) (n : ℕ) (delete : Bool) (c : ℕ) (cells more : List Value) (f : Field) (text : List ℕ) → with_field s n delete c cells f text ≡ Ok more → length more ≡ length cells
 with_field-width s n delete c cells more field.Op text e = let q : cells ≡ more = cc e in ap length (sym q)
 with_field-width s n delete c cells more (field.Column j) text e = by_read (is_read s delete j) e
   where
@@ -191,7 +191,7 @@ with_fields-width s n delete c cells final (f ∷ fields) (t ∷ texts) e =
     by_step (Ok more) o e later = later more e ∙ with_field-width s n delete c cells more f t o
 
 -- no column is missing
-none_missing : (fields : List Field) (i : ℕ) (cs : List Column) → missing_from fields i cs ≡ None → (k : ℕ) → k < length cs → list_any (is_same (field.Column (i + k))) fields ≡ true
+pub none_missing : (fields : List Field) (i : ℕ) (cs : List Column) → missing_from fields i cs ≡ None → (k : ℕ) → k < length cs → list_any (is_same (field.Column (i + k))) fields ≡ true
 none_missing fields i [] h k l = absurd (omega arith)
 none_missing fields i (c ∷ cs) h k l = by_test (list_any (is_same (field.Column i)) fields) refl h k l (none_missing fields (i + 1) cs)
   where

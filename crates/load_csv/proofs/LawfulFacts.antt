@@ -94,10 +94,10 @@ others-fit s fields n texts cells whole l e =
     (length-drop s.keys cells ∙ ap (λ m. m - s.keys) (cells-width s fields n false texts cells e) ∙ sym (length-drop s.keys s.columns))
     (λ k c g. rw (get-drop s.keys cells k) (cells-hold s fields n false texts cells whole l e (s.keys + k) c (sym (get-drop s.keys s.columns k) ∙ g) refl))
 
-same_width : (a b : ℕ) → (a == b) ≡ true → a ≡ b
+pub same_width : (a b : ℕ) → (a == b) ≡ true → a ≡ b
 same_width a b h = grind (arith, h)
 
-not_longer : (a b : ℕ) → nat_lt a b ≡ false → b ≤ a
+pub not_longer : (a b : ℕ) → nat_lt a b ≡ false → b ≤ a
 not_longer a b h = grind (arith, h)
 
 line-good : (s : Layout) (fields : List Field) (n : ℕ) (texts : List (List ℕ)) (op : Op) → missing_from fields 0 s.columns ≡ None → line_of s fields n texts ≡ Ok op → Good s op

@@ -1,14 +1,13 @@
 ghost use Rattle.std.specs.Prelude.{◌≡◌, ◌≢◌, ◌≤◌, ◌<◌, ◌++◌, ◌∷◌, ◌+◌, ◌^◌, [], IfOk, IfErr, IfSome, OnOk, Ok, Err, None, length, option_map};
 ghost use Rattle.std.specs.List.{list_any};
 ghost use Rattle.csv.specs.Records.{fields_of};
-ghost use Rattle.pk_values.specs.Schemas.{place_of_name};
 ghost use Rattle.load_csv.specs.Headers.{field_named, fields_after, header_of, is_same, missing_from, new_field};
 ghost use Rattle.load_csv.specs.Records.{most_bytes};
 
 use crate::loads::LoadFault;
 use crate::records::text_at;
 use csv::ByteRecord;
-use pk_values::{Column, Schema};
+use pk_values::{Schema, place_of_name};
 use std::alloc::Global;
 
 // What a field of a file holds.
@@ -35,15 +34,6 @@ fn is_among(field: Field, fields: &[Field]) -> bool
     ensures { result ≡ list_any (is_same field) fields.now }
 {
     fields.iter().any(|other| is_same(field, *other))
-}
-
-fn place_of_name(name: &[u8], columns: &[Column]) -> Option<usize>
-    ensures place { result ≡ place_of_name name.now columns.now }
-    ensures within { IfSome result (λ i. i < length columns.now) }
-{
-    columns
-        .iter()
-        .position(|column| column.name.as_slice() == name)
 }
 
 // What a name of the header stands for.

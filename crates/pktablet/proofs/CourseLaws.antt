@@ -11,8 +11,8 @@ use Rattle.pk_model.specs.declared.calls.Call.{Call}
 use Rattle.pk_model.specs.declared.calls.Reply.{Reply}
 use Rattle.pk_model.specs.declared.calls.Reply.TheVariants as reply
 use Rattle.load_csv.specs.Loads.{load_of}
-use Rattle.pk_model.specs.Books.{MayReply, new_book, next, version}
-use Rattle.script_text.specs.Reports.{AreOutcomes, AreReplies, InLineOrder, IsOutcome, LoadOutcome, ScanOutcome, StatOutcome, Turn, book_after, book_left, call_at, call_of, turn_of, turns}
+use Rattle.pk_model.specs.Books.{MayReply, greatest_number, new_book, next}
+use Rattle.script_text.specs.Reports.{AreOutcomes, AreReplies, InLineOrder, IsOutcome, LoadOutcome, ScanOutcome, StatOutcome, Turn, book_after, book_left, call_at, call_of, job_at, turn_of, turns}
 use Rattle.script_text.specs.declared.tasks.Task.{Task}
 use Rattle.script_text.specs.declared.tasks.Task.TheVariants as task
 use Rattle.script_text.specs.declared.outcomes.Outcome.{Outcome}
@@ -37,7 +37,7 @@ get-more [] t i lt = absurd (omega arith)
 get-more (u ∷ tasks) t zero lt = refl
 get-more (u ∷ tasks) t (suc i) lt = get-more tasks t i (omega arith)
 
-pub get-last : (tasks : List Task) (t : Task) (i : ℕ) → i ≡ length tasks → slice_get (tasks ++ t ∷ []) i ≡ Some t
+get-last : (tasks : List Task) (t : Task) (i : ℕ) → i ≡ length tasks → slice_get (tasks ++ t ∷ []) i ≡ Some t
 get-last [] t zero e = refl
 get-last [] t (suc i) e = absurd (omega arith)
 get-last (u ∷ tasks) t zero e = absurd (omega arith)
@@ -47,11 +47,19 @@ module _ (s : Layout) (tasks : List Task) (t : Task) where
   abbrev more : List Task
   more = tasks ++ t ∷ []
 
+  job-more : (n : ℕ) → 1 ≤ n → n ≤ length tasks → job_at more n ≡ job_at tasks n
+  job-more zero from to = absurd (omega arith)
+  job-more (suc n) from to = get-more tasks t n (omega arith)
+
+  job-last : (n : ℕ) → n ≡ length tasks + 1 → job_at more n ≡ Some t
+  job-last zero e = absurd (omega arith)
+  job-last (suc n) e = get-last tasks t n (omega arith)
+
   call-more : (item : Item) → 1 ≤ item.job → item.job ≤ length tasks → call_at s more item ≡ call_at s tasks item
-  call-more item from to = ap (option_and_then (call_of s)) (get-more tasks t (item.job - 1) (omega arith))
+  call-more item from to = ap (option_and_then (call_of s)) (job-more item.job from to)
 
   pub call-last : (item : Item) → item.job ≡ length tasks + 1 → call_at s more item ≡ call_of s t
-  call-last item e = ap (option_and_then (call_of s)) (get-last tasks t (item.job - 1) (omega arith))
+  call-last item e = ap (option_and_then (call_of s)) (job-last item.job e)
 
   turns-more : (b : Book) (place : ℕ) (items : List Item) (rs : List Reply) → AreWithin (length tasks) items → turns s more b place items rs ≡ turns s tasks b place items rs
   turns-more b place [] rs w = refl
@@ -286,7 +294,7 @@ module _ (s : Layout) (tasks : List Task) (b : Book) (order : List Item) (os : L
     (may : MayReply b call r)
     (after : b' ≡ next s b (length order + 1) call r)
     (became : TurnOutcome s t (record { job = length tasks + 1; reply = r; book = next s b (length order + 1) call r }) o)
-    (few : version b' ≤ length tasks + 1)
+    (few : greatest_number b' ≤ length tasks + 1)
     (open_book : b'.closed ≡ None)
     (calm : EndsCalmly o)
     (texts : HaveTexts b') where

@@ -24,7 +24,7 @@ use Rattle.pk_model.specs.declared.calls.Reply.{Reply}
 use Rattle.pk_model.specs.declared.calls.Reply.TheVariants as reply
 use Rattle.pk_model.specs.Lawful.{IsLawful}
 use Rattle.pk_model.specs.Tables.{Rows}
-use Rattle.pk_model.specs.Books.{MayReply, answer, answer_load, answer_open, answer_stat, answer_unless, change, change_load, change_unless, is_full, new_book, next, publish, rows_at, version}
+use Rattle.pk_model.specs.Books.{MayReply, answer, answer_load, answer_open, answer_stat, answer_unless, change, change_load, change_unless, greatest_number, is_full, new_book, next, publish, rows_at, version}
 use Rattle.script_text.specs.Texts.{AreWritable, rows_text}
 use Rattle.script_text.specs.Reports.{LoadOutcome, Reports, RowsOutcome, ScanReply, Turn, call_of}
 use Rattle.script_text.specs.declared.tasks.Task.{Task}
@@ -190,7 +190,7 @@ pub adds-taken : (s : Layout) (job : ℕ) (old new : Course) (t : Task) (asked :
     → MayReply old.book asked r
     → ((place : ℕ) → new.book ≡ next s old.book place asked r)
     → ((u : Turn) → u.reply ≡ r → u.book ≡ new.book → TurnOutcome s t u o)
-    → version new.book ≤ version old.book + 1
+    → greatest_number new.book ≤ greatest_number old.book + 1
     → new.book.closed ≡ None
     → EndsCalmly o
     → (HaveTexts old.book → HaveTexts new.book)

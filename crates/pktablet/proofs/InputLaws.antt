@@ -2,7 +2,6 @@
 use Rattle.std.proofs.Common.{◌≡◌, refl, ap, sym, subst, ◌∙◌, ⊎_elim, ℕ, zero, suc, ◌+◌, ◌<◌, ◌≤◌, arith, add-one, List, [], ◌∷◌, ◌++◌, length, take, drop, get_or, Option, Some, None, Ok, Err, cond, Bool as Truth, true, false, ◌&&◌, inl, inr, ◌==◌}
 use Rattle.std.specs.List.{AllByRecursion}
 use Rattle.std.proofs.lemmas.Bool.{and_parts}
-use Rattle.dev_traits.specs.Causes.{Rose}
 use Rattle.dev_traits.specs.Streams.{Files}
 use Rattle.pk_values.specs.Schemas.{Layout}
 use Rattle.script_text.specs.declared.scripts.Job.{Job}
@@ -18,46 +17,42 @@ use Rattle.pktablet.specs.declared.causes.Cause.TheVariants as cause
 
 -- ---- why a run stops
 
-rose-before : (before mid now : ℕ) → before ≤ mid → Rose mid now → Rose before now
-rose-before before mid now le h = omega (arith, le, h)
-
-pub stops-at : (files : Option Files) (words : List (List ℕ)) (name : List ℕ) (most limit before mid now : ℕ) (c : Cause)
-    → Asks files words name most limit → before ≤ mid → StopsAt files name most limit mid now c → Stops files words before now c
-stops-at files words name most limit before mid now (cause.Missing n) asks le h =
+pub stops-at : (files : Option Files) (words : List (List ℕ)) (name : List ℕ) (most limit : ℕ) (c : Cause)
+    → Asks files words name most limit → StopsAt files name most limit c → Stops files words c
+stops-at files words name most limit (cause.Missing n) asks h =
     (most, limit, subst (λ x. Asks files words x most limit) (sym h.0) asks, subst (λ x. Lacks files x) (sym h.0) h.1)
-stops-at files words name most limit before mid now (cause.InputFault n) asks le h =
-    (most, limit, subst (λ x. Asks files words x most limit) (sym h.0) asks, rose-before before mid now le h.1)
-stops-at files words name most limit before mid now (cause.TooLarge n bytes) asks le h =
+stops-at files words name most limit (cause.InputFault n) asks h = (most, limit, subst (λ x. Asks files words x most limit) (sym h) asks)
+stops-at files words name most limit (cause.TooLarge n bytes) asks h =
     (most, limit, subst (λ x. Asks files words x most limit) (sym h.0) asks, subst (λ x. Exceeds files x most) (sym h.0) h.2, h.1)
-stops-at files words name most limit before mid now cause.Memory asks le h = tt
-stops-at files words name most limit before mid now cause.None asks le h = absurd h
-stops-at files words name most limit before mid now cause.Refused asks le h = absurd h
-stops-at files words name most limit before mid now cause.Words asks le h = absurd h
-stops-at files words name most limit before mid now (cause.Table f) asks le h = absurd h
-stops-at files words name most limit before mid now (cause.Script f) asks le h = absurd h
-stops-at files words name most limit before mid now (cause.Unbuilt n) asks le h = absurd h
-stops-at files words name most limit before mid now cause.Sink asks le h = absurd h
+stops-at files words name most limit cause.Memory asks h = tt
+stops-at files words name most limit cause.None asks h = absurd h
+stops-at files words name most limit cause.Refused asks h = absurd h
+stops-at files words name most limit cause.Words asks h = absurd h
+stops-at files words name most limit (cause.Table f) asks h = absurd h
+stops-at files words name most limit (cause.Script f) asks h = absurd h
+stops-at files words name most limit (cause.Unbuilt n) asks h = absurd h
+stops-at files words name most limit cause.Sink asks h = absurd h
 
-pub plan-stops : (files : Option Files) (words : List (List ℕ)) (table script : List ℕ) (before now : ℕ) (c : Cause)
-    → HasTexts files words table script → PlanStops table script c → Stops files words before now c
-plan-stops files words table script before now (cause.Table f) t h = (table, script, t, h)
-plan-stops files words table script before now (cause.Script f) t h = (h.0, table, script, t, h.1, h.2)
-plan-stops files words table script before now (cause.Unbuilt n) t h =
+pub plan-stops : (files : Option Files) (words : List (List ℕ)) (table script : List ℕ) (c : Cause)
+    → HasTexts files words table script → PlanStops table script c → Stops files words c
+plan-stops files words table script (cause.Table f) t h = (table, script, t, h)
+plan-stops files words table script (cause.Script f) t h = (h.0, table, script, t, h.1, h.2)
+plan-stops files words table script (cause.Unbuilt n) t h =
     (h.0, h.1, record { table = table; script = script; texts = t; table_is = h.2; script_is = h.3 }, h.4)
-plan-stops files words table script before now cause.Memory t h = tt
-plan-stops files words table script before now (cause.Missing n) t h = cc
-plan-stops files words table script before now (cause.InputFault n) t h = cc
-plan-stops files words table script before now (cause.TooLarge n bytes) t h = cc
-plan-stops files words table script before now cause.None t h = cc
-plan-stops files words table script before now cause.Refused t h = cc
-plan-stops files words table script before now cause.Words t h = cc
-plan-stops files words table script before now cause.Sink t h = cc
+plan-stops files words table script cause.Memory t h = tt
+plan-stops files words table script (cause.Missing n) t h = cc
+plan-stops files words table script (cause.InputFault n) t h = cc
+plan-stops files words table script (cause.TooLarge n bytes) t h = cc
+plan-stops files words table script cause.None t h = cc
+plan-stops files words table script cause.Refused t h = cc
+plan-stops files words table script cause.Words t h = cc
+plan-stops files words table script cause.Sink t h = cc
 
-pub jobs-stop : (files : Option Files) (words : List (List ℕ)) (s : Layout) (jobs : List Job) (before mid now : ℕ) (c : Cause)
-    → HasJobs files words s jobs → first_unbuilt 1 jobs ≡ None → before ≤ mid → JobsStop files jobs mid now c → Stops files words before now c
-jobs-stop files words s jobs before mid now c has built le h = ⊎_elim
-    (λ e. subst (λ x. Stops files words before now x) (sym e) tt)
-    (λ p. stops-at files words p.0 (most_after p.1) (limit_after p.1) before mid now c (inr (inr (p.1, (s, jobs, has, built, p.2), refl, refl))) le p.3)
+pub jobs-stop : (files : Option Files) (words : List (List ℕ)) (s : Layout) (jobs : List Job) (c : Cause)
+    → HasJobs files words s jobs → first_unbuilt 1 jobs ≡ None → JobsStop files jobs c → Stops files words c
+jobs-stop files words s jobs c has built h = ⊎_elim
+    (λ e. subst (λ x. Stops files words x) (sym e) tt)
+    (λ p. stops-at files words p.0 (most_after p.1) (limit_after p.1) c (inr (inr (p.1, (s, jobs, has, built, p.2), refl, refl))) p.3)
     h
 
 -- ---- the tasks of jobs
@@ -128,9 +123,9 @@ split-at (x ∷ xs) zero d lt = refl
 split-at (x ∷ xs) (suc i) d lt = ap (λ ys. x ∷ ys) (split-at xs i d (omega arith))
 
 -- the file of the job in place i is the next one
-pub next-stops : (files : Option Files) (jobs : List Job) (i : ℕ) (j : Job) (ts : List Task) (read before mid now : ℕ) (c : Cause)
-    → i < length jobs → j ≡ get_or jobs i j → AreTasks files (take i jobs) ts → read ≡ bytes_in ts → read ≤ most_loads → before ≤ mid → TaskStops files j.act read mid now c → JobsStop files jobs before now c
-next-stops files jobs i j ts read before mid now c lt is are sum few le h = by j.act refl h
+pub next-stops : (files : Option Files) (jobs : List Job) (i : ℕ) (j : Job) (ts : List Task) (read : ℕ) (c : Cause)
+    → i < length jobs → j ≡ get_or jobs i j → AreTasks files (take i jobs) ts → read ≡ bytes_in ts → read ≤ most_loads → TaskStops files j.act read c → JobsStop files jobs c
+next-stops files jobs i j ts read c lt is are sum few h = by j.act refl h
   where
     found : (name : List ℕ) → j.act ≡ act.Load name → LoadsNext files jobs name read
     found name e = record {
@@ -145,21 +140,8 @@ next-stops files jobs i j ts read before mid now c lt is are sum few le h = by j
       loads = e;
     }
 
-    at : (name : List ℕ) (c : Cause) → StopsAt files name (most_after read) (limit_after read) mid now c → StopsAt files name (most_after read) (limit_after read) before now c
-    at name (cause.Missing n) k = k
-    at name (cause.InputFault n) k = (k.0, rose-before before mid now le k.1)
-    at name (cause.TooLarge n bytes) k = k
-    at name cause.Memory k = tt
-    at name cause.None k = absurd k
-    at name cause.Refused k = absurd k
-    at name cause.Words k = absurd k
-    at name (cause.Table f) k = absurd k
-    at name (cause.Script f) k = absurd k
-    at name (cause.Unbuilt n) k = absurd k
-    at name cause.Sink k = absurd k
-
-    by : (a : JobAct) → j.act ≡ a → TaskStops files a read mid now c → JobsStop files jobs before now c
-    by (act.Load name) e k = inr (name, read, found name e, at name c k)
+    by : (a : JobAct) → j.act ≡ a → TaskStops files a read c → JobsStop files jobs c
+    by (act.Load name) e k = inr (name, read, found name e, k)
     by (act.Partial name) e k = inl k
     by (act.Scan want) e k = inl k
     by act.Compact e k = inl k

@@ -8,7 +8,7 @@ use Rattle.cell_text.specs.Texts.{IsWritable}
 use Rattle.pk_model.specs.Tables.{Rows}
 use Rattle.pk_model.specs.declared.books.Book.{Book}
 use Rattle.pk_model.specs.declared.calls.Reply.{Reply}
-use Rattle.pk_model.specs.Books.{new_book, version}
+use Rattle.pk_model.specs.Books.{greatest_number, new_book}
 use Rattle.pktablet.specs.Statuses.{EndsCalmly}
 use Rattle.script_text.specs.Reports.{AreOutcomes, AreReplies, InLineOrder, book_left, turns}
 use Rattle.script_text.specs.declared.tasks.Task.{Task}
@@ -39,7 +39,7 @@ pub record IsCourse (s : Layout) (tasks : List Task) (book : Book) (order : List
   pub legal : AreReplies s tasks new_book 1 order replies
   pub told : AreOutcomes s (turns s tasks new_book 1 order replies) 1 tasks outcomes
   pub left : book_left s tasks new_book 1 order replies ≡ book
-  pub few : version book ≤ length tasks
+  pub few : greatest_number book ≤ length tasks
   pub open_book : book.closed ≡ None
   pub calm : AllByRecursion EndsCalmly outcomes
   pub texts : HaveTexts book

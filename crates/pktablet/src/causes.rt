@@ -18,6 +18,8 @@ fn accepted_table(fault: &TableFault) -> &'static str {
     match fault {
         TableFault::Bad(_) =>
             "a table has 1 to 64 columns of different names, of which the first 1 to 8 are the key and take neither NULL nor a default",
+        TableFault::Column(_, _) =>
+            "a column is {\"name\": TEXT, \"type\": TYPE}, with \"nullable\": true or false and \"default\": TEXT or null where they are wanted",
         _ =>
             "a table is {\"columns\": [COLUMN, ..], \"keys\": NUMBER}, and a COLUMN {\"name\": TEXT, \"type\": TYPE}, with \"nullable\": true or false and \"default\": TEXT or null where they are wanted",
     }
@@ -36,7 +38,7 @@ pub enum Cause {
     #[error("there is no file `{}`", shown(.0))]
     Missing(Octets),
     /// An ask for an input, or a read of one, failed: this one, by its name.
-    #[error("the file `{}` could not be read", shown(.0))]
+    #[error("the file `{}` could not be read: it must be a file, not a folder, that may be read", shown(.0))]
     InputFault(Octets),
     /// With the input of this name a limit is passed: its own, or that of all load files together. The number is the limit that it passes first, and one more.
     #[error("with the file `{}` a limit is passed: {bytes} bytes or more, where a table and a script may have 1,048,576 each, a load file 67,108,864 and all load files of a script 268,435,456", shown(.name))]
@@ -48,7 +50,7 @@ pub enum Cause {
     #[error("{0}")]
     Script(ScriptFault),
     /// The job of this number, counted from 1, is not built yet: it is no `load`, `scan` or `stat`, or not in lane 1.
-    #[error("job {0} is not built yet: `load`, `scan` and `stat` in lane 1 are")]
+    #[error("job {0} is of a kind that is not built yet: `load`, `scan` and `stat` are, in lane 1")]
     Unbuilt(u64),
     /// A put failed.
     #[error("the report could not be written")]
@@ -82,6 +84,9 @@ impl Cause {
 /// How a run ended.
 #[derive(Debug, Drop)]
 pub struct Ended {
+    /// The exit status that the cause has: 0 where each job was done, 1 where one was refused, 2 for words, a table or a script that are not of their form or
+    /// not built yet, 3 for an input, 6 for the sink, 7 for memory.
     pub status: u8,
+    /// Why it ended so.
     pub cause: Cause,
 }

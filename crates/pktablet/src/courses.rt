@@ -5,7 +5,7 @@ ghost use Rattle.load_csv.specs.Loads.{load_of};
 ghost use Rattle.pk_values.specs.Schemas.{Layout};
 ghost use Rattle.pk_model.specs.Lawful.{IsLawful};
 ghost use Rattle.pk_model.specs.Tables.{Rows};
-ghost use Rattle.pk_model.specs.Books.{MayReply, answer, new_book, next, rows_at, version};
+ghost use Rattle.pk_model.specs.Books.{MayReply, answer, greatest_number, new_book, next, rows_at};
 ghost use Rattle.script_text.specs.Reports.{Reports, RowsOutcome, ScanReply};
 ghost use Rattle.script_text.specs.Texts.{AreWritable, rows_text};
 ghost use Rattle.pktablet.specs.Courses.{Adds, HaveTexts, IsCourse, HasFewBytes};
@@ -28,12 +28,12 @@ pub struct Course {
 
 // The reply to a load.
 fn load_reply(alloc: Global, schema: &Schema, book: &mut Book, load: Load) -> Reply
-    requires few { version book.old < 2 ^ 62 }
+    requires few { greatest_number book.old < 2 ^ 62 }
     requires lawful { IsLawful schema.now load }
     requires open_book { book.old.closed ≡ None }
     ensures may { MayReply book.old (Call.Load load) result }
     ensures after { (place : ℕ) → book.new ≡ next schema.now book.old place (Call.Load load) result }
-    ensures grows { version book.new ≤ version book.old + 1 }
+    ensures grows { greatest_number book.new ≤ greatest_number book.old + 1 }
     ensures texts { HaveTexts book.old → HaveTexts book.new }
     ensures stays_open { book.new.closed ≡ None }
     ensures calm { RepliesCalmly result }
@@ -110,7 +110,7 @@ impl Course {
         job: u32,
         load: Load,
     ) -> Result<(), AllocError>
-        requires few { version self.old.book < 2 ^ 62 }
+        requires few { greatest_number self.old.book < 2 ^ 62 }
         requires open_book { self.old.book.closed ≡ None }
         requires lawful { IsLawful schema.now load }
         ensures { OnOk result ((bytes : List ℕ) → load_of schema.now bytes ≡ Ok load → Adds schema.now job (Task.Load bytes) self.old self.new) }
@@ -127,7 +127,7 @@ impl Course {
         job: u32,
         bytes: &[u8],
     ) -> Result<(), AllocError>
-        requires few { version self.old.book < 2 ^ 62 }
+        requires few { greatest_number self.old.book < 2 ^ 62 }
         requires open_book { self.old.book.closed ≡ None }
         requires within { length bytes.now ≤ 67108864 }
         ensures { OnOk result (Adds schema.now job (Task.Load bytes.now) self.old self.new) }
@@ -140,7 +140,7 @@ impl Course {
 
     // Scans a version.
     fn scan(&mut self, alloc: Global, job: u32, want: Want) -> Result<(), AllocError>
-        requires few { version self.old.book < 2 ^ 62 }
+        requires few { greatest_number self.old.book < 2 ^ 62 }
         requires open_book { self.old.book.closed ≡ None }
         requires texts { HaveTexts self.old.book }
         ensures { OnOk result ((s : Layout) → Adds s job (Task.Scan want) self.old self.new) }
@@ -152,7 +152,7 @@ impl Course {
 
     // Counts.
     fn count(&mut self, job: u32) -> Result<(), AllocError>
-        requires few { version self.old.book < 2 ^ 62 }
+        requires few { greatest_number self.old.book < 2 ^ 62 }
         requires open_book { self.old.book.closed ≡ None }
         ensures { OnOk result ((s : Layout) → Adds s job Task.Stat self.old self.new) }
     {
@@ -168,7 +168,7 @@ impl Course {
         job: u32,
         task: &Task,
     ) -> Result<(), AllocError>
-        requires few { version self.old.book < 2 ^ 62 }
+        requires few { greatest_number self.old.book < 2 ^ 62 }
         requires open_book { self.old.book.closed ≡ None }
         requires texts { HaveTexts self.old.book }
         requires within { HasFewBytes task.now }

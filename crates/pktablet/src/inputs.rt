@@ -5,8 +5,8 @@ ghost use Rattle.script_text.specs.Answers.{AreJobs, IsScript};
 ghost use Rattle.command_line.specs.Words.{texts};
 ghost use Rattle.std.specs.List.{AllByRecursion};
 ghost use Rattle.pktablet.specs.Courses.{HasFewBytes};
-ghost use Rattle.pktablet.specs.Runs.{AreTasks, HasTasks, HasTexts, IsTask, JobsStop, PlanStops, ScriptStops, Stops, StopsAt, TableStops, TaskStops, bytes_in, first_unbuilt, is_built, is_built_act, limit_after, most_after, most_loads, task_bytes};
-ghost use Rattle.pktablet.specs.Streams.{Holds, StopsInput};
+ghost use Rattle.pktablet.specs.Runs.{AreTasks, HasTasks, HasTexts, InputCause, IsTask, JobsStop, PlanStops, ScriptStops, StepCause, Stops, StopsAt, TableStops, TaskStops, bytes_in, first_unbuilt, is_built, is_built_act, limit_after, most_after, most_loads, task_bytes};
+ghost use Rattle.pktablet.specs.Streams.{Holds, StopCause, StopsInput};
 ghost use Rattle.dev_traits.specs.Streams.{Files};
 
 use crate::causes::Cause;
@@ -27,14 +27,12 @@ const MOST_LOAD: usize = 67_108_864;
 // The most bytes of all load files of a script.
 const MOST_LOADS: usize = 268_435_456;
 
-// Why the input of a name was not read, where it may hold so many bytes and passes this limit past them.
-fn stopped(alloc: Global, name: &str, limit: u64, stop: InputStop) -> Cause
+// Why the input of a name was not read, where it passes this limit past the bytes that it may hold.
+fn stopped(name: Octets, limit: u64, stop: InputStop) -> Cause
     requires { limit < 2 ^ 32 }
-    ensures { (files : Option Files) (most before now : ℕ) → StopsInput files name.now most before now stop → StopsAt files name.now most limit before now result }
+    ensures stopped { (files : Option Files) (most : ℕ) → StopsInput files name most stop → StopsAt files name most limit result }
+    ensures cause { (before now : ℕ) → StopCause before now stop → InputCause before now result }
 {
-    let Ok(name) = Octets::from_slice(alloc, name.as_bytes()) else {
-        return Cause::Memory;
-    };
     match stop {
         InputStop::Missing => Cause::Missing(name),
         InputStop::Fault => Cause::InputFault(name),
@@ -46,7 +44,7 @@ fn stopped(alloc: Global, name: &str, limit: u64, stop: InputStop) -> Cause
     }
 }
 
-// Reads an input that may hold so many bytes, and passes this limit past them.
+// Reads an input that may hold so many bytes, and passes this limit past them. The name is copied before the input is asked for, so that a fault can tell it.
 fn input<I: Inputs>(
     alloc: Global,
     inputs: &mut I,
@@ -57,13 +55,16 @@ fn input<I: Inputs>(
     requires few { most < 2 ^ 32 }
     requires small { limit < 2 ^ 32 }
     ensures same { I.files inputs.new ≡ I.files inputs.old }
-    ensures counts { I.faults inputs.old ≤ I.faults inputs.new }
     ensures read { IfOk result (λ bytes. Holds (I.files inputs.old) name.now most bytes.items) }
-    ensures stopped { IfErr result (StopsAt (I.files inputs.old) name.now most limit (I.faults inputs.old) (I.faults inputs.new)) }
+    ensures stopped { IfErr result (StopsAt (I.files inputs.old) name.now most limit) }
+    ensures cause { I.faults inputs.old < 2 ^ 64 → StepCause (I.faults inputs.old) (I.faults inputs.new) result }
 {
+    let Ok(kept) = Octets::from_slice(alloc, name.as_bytes()) else {
+        return Err(Cause::Memory);
+    };
     match read_input(alloc, inputs, name, most) {
         Ok(bytes) => Ok(bytes),
-        Err(stop) => Err(stopped(alloc, name, limit, stop)),
+        Err(stop) => Err(stopped(kept, limit, stop)),
     }
 }
 
@@ -81,9 +82,9 @@ fn find_texts<'a, I: Inputs>(
     inputs: &mut I,
 ) -> Result<Texts, Cause>
     ensures same { I.files inputs.new ≡ I.files inputs.old }
-    ensures counts { I.faults inputs.old ≤ I.faults inputs.new }
     ensures read { IfOk result (λ read. HasTexts (I.files inputs.old) (texts words.entry.now) read.table.items read.script.items) }
-    ensures stopped { IfErr result (Stops (I.files inputs.old) (texts words.entry.now) (I.faults inputs.old) (I.faults inputs.new)) }
+    ensures stopped { IfErr result (Stops (I.files inputs.old) (texts words.entry.now)) }
+    ensures cause { I.faults inputs.old < 2 ^ 64 → StepCause (I.faults inputs.old) (I.faults inputs.new) result }
 {
     let named = match read_words(alloc, words) {
         Ok(named) => named,
@@ -197,9 +198,9 @@ fn read_load_file<I: Inputs>(
 ) -> Result<Octets, Cause>
     requires { read ≤ most_loads }
     ensures same { I.files inputs.new ≡ I.files inputs.old }
-    ensures counts { I.faults inputs.old ≤ I.faults inputs.new }
     ensures read { IfOk result (λ bytes. Holds (I.files inputs.old) name.now (most_after read) bytes) }
-    ensures stopped { IfErr result (StopsAt (I.files inputs.old) name.now (most_after read) (limit_after read) (I.faults inputs.old) (I.faults inputs.new)) }
+    ensures stopped { IfErr result (StopsAt (I.files inputs.old) name.now (most_after read) (limit_after read)) }
+    ensures cause { I.faults inputs.old < 2 ^ 64 → StepCause (I.faults inputs.old) (I.faults inputs.new) result }
 {
     let left = MOST_LOADS - read;
     let (most, limit) = if MOST_LOAD <= left {
@@ -221,10 +222,10 @@ fn read_task<I: Inputs>(
     requires built { is_built_act act.now ≡ true }
     requires few { read ≤ most_loads }
     ensures same { I.files inputs.new ≡ I.files inputs.old }
-    ensures counts { I.faults inputs.old ≤ I.faults inputs.new }
     ensures task { IfOk result (λ task. IsTask (I.files inputs.old) act.now task) }
     ensures within { IfOk result (λ task. read + task_bytes task ≤ most_loads) }
-    ensures stopped { IfErr result (TaskStops (I.files inputs.old) act.now read (I.faults inputs.old) (I.faults inputs.new)) }
+    ensures stopped { IfErr result (TaskStops (I.files inputs.old) act.now read) }
+    ensures cause { I.faults inputs.old < 2 ^ 64 → StepCause (I.faults inputs.old) (I.faults inputs.new) result }
 {
     match act {
         JobAct::Load(name) => match std::str::from_utf8(name.as_slice()) {
@@ -262,10 +263,10 @@ fn push(tasks: &mut Vec<Task>, task: Task) -> Result<(), Cause>
 fn read_tasks<I: Inputs>(alloc: Global, inputs: &mut I, jobs: &[Job]) -> Result<Vec<Task>, Cause>
     requires built { first_unbuilt 1 jobs.now ≡ None }
     ensures same { I.files inputs.new ≡ I.files inputs.old }
-    ensures counts { I.faults inputs.old ≤ I.faults inputs.new }
     ensures tasks { IfOk result (λ tasks. AreTasks (I.files inputs.old) jobs.now tasks.items) }
     ensures within { IfOk result (λ tasks. bytes_in tasks.items ≤ most_loads) }
-    ensures stopped { IfErr result (JobsStop (I.files inputs.old) jobs.now (I.faults inputs.old) (I.faults inputs.new)) }
+    ensures stopped { IfErr result (JobsStop (I.files inputs.old) jobs.now) }
+    ensures cause { I.faults inputs.old < 2 ^ 64 → StepCause (I.faults inputs.old) (I.faults inputs.new) result }
 {
     let mut tasks = Vec::new(alloc);
     let mut read = 0;
@@ -297,7 +298,8 @@ pub fn find_tasks<'a, I: Inputs>(
     ensures asked { IfOk result (λ asked. HasTasks (I.files inputs.old) (texts words.entry.now) asked.schema asked.tasks.items) }
     ensures few { IfOk result (λ asked. length asked.tasks.items ≤ 4096) }
     ensures within { IfOk result (λ asked. AllByRecursion HasFewBytes asked.tasks.items) }
-    ensures stopped { IfErr result (Stops (I.files inputs.old) (texts words.entry.now) (I.faults inputs.old) (I.faults inputs.new)) }
+    ensures stopped { IfErr result (Stops (I.files inputs.old) (texts words.entry.now)) }
+    ensures cause { I.faults inputs.old < 2 ^ 64 → StepCause (I.faults inputs.old) (I.faults inputs.new) result }
 {
     let texts = match find_texts(alloc, words, inputs) {
         Ok(texts) => texts,

@@ -1,6 +1,9 @@
 //! One tablet of a primary key table, run by a script of jobs.
 #![tactic(auto)]
 
+ghost use Rattle.std.specs.Prelude.{◌≡◌, IfOk};
+ghost use Rattle.pktablet.specs.Statuses.{cause_status};
+
 pub mod causes;
 mod courses;
 mod inputs;
@@ -46,7 +49,9 @@ fn answer_word(rt: &HostRuntime, words: &[String]) -> io::Result<bool> {
 }
 
 // Runs the words over the host's files and standard output.
-fn run_on_host(rt: &HostRuntime, words: &[String]) -> io::Result<Ended> {
+fn run_on_host(rt: &HostRuntime, words: &[String]) -> io::Result<Ended>
+    ensures status { IfOk result (λ ended. ended.status ≡ cause_status ended.cause) }
+{
     let alloc: Global = rt.alloc();
     let mut texts = Vec::new(alloc);
     for word in words {
@@ -58,7 +63,9 @@ fn run_on_host(rt: &HostRuntime, words: &[String]) -> io::Result<Ended> {
 }
 
 // How a run ended that did not come to its words.
-fn not_begun(error: &io::Error) -> Ended {
+fn not_begun(error: &io::Error) -> Ended
+    ensures status { result.status ≡ cause_status result.cause }
+{
     let cause = match error.kind() {
         ErrorKind::OutOfMemory => Cause::Memory,
         _ => Cause::Words,
@@ -104,7 +111,9 @@ fn printed(answered: io::Result<bool>) -> Option<Cause> {
 }
 
 // Does what the words ask for.
-fn attempt(rt: &HostRuntime, words: &[String]) -> Ended {
+fn attempt(rt: &HostRuntime, words: &[String]) -> Ended
+    ensures status { result.status ≡ cause_status result.cause }
+{
     match printed(answer_word(rt, words)) {
         Some(cause) => Ended {
             status: cause.status(),

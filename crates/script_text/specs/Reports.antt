@@ -1,6 +1,5 @@
 -- What a report tells: the replies of one book to the jobs, in the order of their turns.
-use Rattle.std.specs.Prelude.{◌≡◌, ℕ, ◌+◌, ◌-◌, ◌<◌, List, [], ◌∷◌, Option, Some, None, option_and_then, find, slice_get, IsSomeAnd, ◌==◌, ⊤, ◌⊎◌, Result, Ok, Err}
-use Rattle.std.specs.Result.{result_ok}
+use Rattle.std.specs.Prelude.{◌≡◌, ℕ, zero, suc, ◌+◌, ◌<◌, List, [], ◌∷◌, Option, Some, None, option_and_then, find, slice_get, IsSomeAnd, ◌==◌, ⊤, ◌⊎◌, Result, Ok, Err}
 use Rattle.std.specs.FinMap as map
 use Rattle.dev_traits.specs.declared.faults.OutsideFault.TheVariants as outside
 use Rattle.pk_values.specs.Schemas.{Layout}
@@ -33,8 +32,13 @@ call_of s (task.Load bytes) = load_call (load_of s bytes)
 call_of s (task.Scan want) = Some (call.Open want)
 call_of s task.Stat = Some call.Stat
 
+-- the job of a number: jobs are numbered from 1, so none has the number 0
+abbrev pub job_at : List Task → ℕ → Option Task
+job_at tasks zero = None
+job_at tasks (suc n) = slice_get tasks n
+
 abbrev pub call_at : Layout → List Task → Item → Option Call
-call_at s tasks item = option_and_then (call_of s) (slice_get tasks (item.job - 1))
+call_at s tasks item = option_and_then (call_of s) (job_at tasks item.job)
 
 -- from a book, the items' calls may get these replies one after the other, from this place on
 abbrev pub AreReplies : Layout → List Task → Book → ℕ → List Item → List Reply → Type 0

@@ -20,6 +20,3 @@ pub use reports::write_report;
 pub use rows::put_rows;
 pub use scripts::{Job, JobAct, Script, ScriptCause, ScriptFault};
 pub use tasks::Task;
-
-#[cfg(test)]
-mod tests;

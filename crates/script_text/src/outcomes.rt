@@ -6,16 +6,22 @@ use pk_values::Octets;
 /// The part of a job that one turn is: the whole of it, its first or its last part, or its giving up.
 #[derive(Clone, Copy, Debug, PartialEq, Eq)]
 pub enum ItemPart {
+    /// A job of one turn: a load, a scan, an expiry or a count.
     Whole,
+    /// The first turn of a job of two: a partial load looks up its keys, a compaction makes its plan.
     First,
+    /// The last turn of a job of two.
     Last,
+    /// A compaction gives its plan up.
     GaveUp,
 }
 
-/// A turn of a job, which is numbered from 1.
+/// A turn of a job.
 #[derive(Clone, Copy, Debug, PartialEq, Eq)]
 pub struct Item {
+    /// The job's number in its script, from 1.
     pub job: u32,
+    /// The part of the job that the turn is.
     pub part: ItemPart,
 }
 
@@ -24,15 +30,18 @@ pub struct Item {
 pub enum Outcome {
     /// The reply of its last turn. A `Closed` tells the position in the order, from 1, of the item that closed the state.
     Turn(Reply),
-    /// The rows of a version, as a report has them.
+    /// The rows that a scan found.
     Rows {
+        /// The version that it opened.
         version: u64,
+        /// How many rows that version has.
         count: u64,
+        /// The rows in the order of their keys, as `put_rows` writes them.
         text: Octets,
     },
-    /// Its file was refused, so it had no turn.
+    /// Its file was refused, or memory was wanting to read it, so it had no turn.
     Load(LoadFault),
-    /// A fault outside a turn ended it.
+    /// A fault outside a turn ended it, as of the maker of its files or of a reader of a version.
     Outside(OutsideFault),
     /// It was not begun.
     NotRun,

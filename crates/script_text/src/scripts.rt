@@ -5,31 +5,35 @@ use thiserror::Error;
 /// What a job does.
 #[derive(Debug, Drop)]
 pub enum JobAct {
-    /// Loads a file of whole rows.
+    /// `load FILE`: loads a file of whole rows, of this name.
     Load(Octets),
-    /// Updates some columns from a file.
+    /// `partial FILE`: updates some columns from a file of this name.
     Partial(Octets),
-    /// Reads the rows of a version.
+    /// `scan VERSION`: reads the rows of a version, or of the latest one.
     Scan(Want),
-    /// Rewrites the live rows of all rowsets as one.
+    /// `compact`: rewrites the live rows of all rowsets as one.
     Compact,
-    /// Drops the versions below one.
+    /// `expire VERSION`: drops the versions below this one.
     Expire(u64),
-    /// Counts versions, rows and rowsets.
+    /// `stat`: counts versions, rows and rowsets.
     Stat,
 }
 
-/// A job, with its lane from 1 to 8 and its phase, counted from 1.
+/// A job of a script.
 #[derive(Debug, Drop)]
 pub struct Job {
+    /// The lane that does it, from 1 to 8.
     pub lane: u32,
+    /// How many lines `wait` stand before it, and one more.
     pub phase: u32,
+    /// What it does.
     pub act: JobAct,
 }
 
 /// The jobs of a script in the order of their lines, at most 4,096.
 #[derive(Debug, Drop)]
 pub struct Script {
+    /// The jobs, which are numbered from 1 in this order.
     pub jobs: Items<Job>,
 }
 
@@ -49,7 +53,7 @@ pub enum ScriptCause {
     #[error("a job is `load`, `partial`, `scan`, `compact`, `expire` or `stat`")]
     UnknownJob,
     /// The job has too few or too many words after it.
-    #[error("the job has too few or too many words after it")]
+    #[error("the job has too few or too many words after it: `load` and `partial` take a file's name, `scan` and `expire` a version, `compact` and `stat` nothing")]
     BadCount,
     /// A file's name is not UTF-8, or has a control byte.
     #[error("a file's name is valid UTF-8 without control bytes")]
@@ -65,10 +69,12 @@ pub enum ScriptCause {
     Memory,
 }
 
-/// The first line that is wrong, counted from 1, and what is wrong with it; line 0 for want of memory.
+/// The first line of a script that is wrong.
 #[derive(Clone, Copy, Debug, PartialEq, Eq, Error)]
 #[error("line {line}: {cause}")]
 pub struct ScriptFault {
+    /// The line's number, counted from 1 with empty lines and comments; 0 for want of memory.
     pub line: u64,
+    /// What is wrong with it.
     pub cause: ScriptCause,
 }

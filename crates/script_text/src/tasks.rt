@@ -1,10 +1,13 @@
 use pk_model::Want;
 use pk_values::Octets;
 
-/// A job of one turn as it is asked of a table: the load of a file with these bytes, the rows of a version, or the counts.
+/// A job of one turn as it is asked of a table.
 #[derive(Debug, Drop)]
 pub enum Task {
+    /// Loads a file of whole rows, which has these bytes.
     Load(Octets),
+    /// Reads the rows of a version.
     Scan(Want),
+    /// Counts versions, rows and rowsets.
     Stat,
 }

@@ -1,6 +1,6 @@
-use Rattle.std.proofs.Common.{◌≡◌, sym, subst, arith, length}
+use Rattle.std.proofs.Common.{◌≡◌, subst, arith, length}
 use Rattle.command_line.specs.Words.{texts}
-use Rattle.pktablet.specs.Runs.{AreTasks, JobsStop}
+use Rattle.pktablet.specs.Runs.{JobsStop}
 use Rattle.pktablet.proofs.InputLaws.{few-tasks, jobs-stop, same-count}
 use Rattle.pktablet.proofs.inputs.find_tasks.Goals as goal
 
@@ -17,11 +17,8 @@ returns-in-Ok-read_tasks-clause-within g c = few-tasks (g.I.Inputs.files c.find_
 pub returns-clause-stopped : goal.returns-clause-stopped
 returns-clause-stopped g c =
     let files = g.I.Inputs.files c.args.inputs.now in
-    let before = g.I.Inputs.faults c.args.inputs.now in
-    let mid = g.I.Inputs.faults c.find_texts.new.inputs in
-    let now = g.I.Inputs.faults c.read_tasks.new.inputs in
     let plan = c.in-Ok-plan_from.plan in
-    jobs-stop files (texts c.args.words.now) plan.schema plan.jobs before mid now c.in-Err-read_tasks.cause
+    jobs-stop files (texts c.args.words.now) plan.schema plan.jobs c.in-Err-read_tasks.cause
     (record {
       table = c.in-Ok.texts.table.items;
       script = c.in-Ok.texts.script.items;
@@ -30,6 +27,5 @@ returns-clause-stopped g c =
       script_is = c.in-Ok-plan_from.ensures.script;
     })
     c.in-Ok-plan_from.ensures.built
-    c.find_texts.ensures.counts
-    (subst (λ f. JobsStop f plan.jobs mid now c.in-Err-read_tasks.cause) c.find_texts.ensures.same
-    (subst (λ js. JobsStop (g.I.Inputs.files c.find_texts.new.inputs) js mid now c.in-Err-read_tasks.cause) c.as_slice.ensures c.in-Err-read_tasks.ensures.stopped))
+    (subst (λ f. JobsStop f plan.jobs c.in-Err-read_tasks.cause) c.find_texts.ensures.same
+    (subst (λ js. JobsStop (g.I.Inputs.files c.find_texts.new.inputs) js c.in-Err-read_tasks.cause) c.as_slice.ensures c.in-Err-read_tasks.ensures.stopped))

@@ -1,24 +1,23 @@
-use Rattle.std.proofs.Common.{◌≡◌, refl, subst, arith, inl, inr}
+use Rattle.std.proofs.Common.{◌≡◌, ℕ, refl, subst, inl, inr}
 use Rattle.command_line.specs.Words.{files_view, texts}
-use Rattle.pktablet.specs.Runs.{StopsAt, most_text}
+use Rattle.pktablet.specs.Runs.{InputCause, StopsAt, most_text}
 use Rattle.pktablet.proofs.InputLaws.{stops-at}
 use Rattle.pktablet.proofs.inputs.find_texts.Goals as goal
 
 pub returns-in-Err-clause-stopped : goal.returns-in-Err-clause-stopped
 returns-in-Err-clause-stopped g c =
-    let before = g.I.Inputs.faults c.args.inputs.now in
-    stops-at (g.I.Inputs.files c.args.inputs.now) (texts c.args.words.now) c.in-Ok.named.table.now most_text most_text before before (g.I.Inputs.faults c.input.new.inputs) c.in-Err.cause
+    stops-at (g.I.Inputs.files c.args.inputs.now) (texts c.args.words.now) c.in-Ok.named.table.now most_text most_text c.in-Err.cause
     (inl ((files_view c.in-Ok.named, c.in-Ok.ensures.files, refl), refl, refl))
-    (omega arith)
     c.in-Err.ensures.stopped
 
 pub returns-in-Err-input-clause-stopped : goal.returns-in-Err-input-clause-stopped
 returns-in-Err-input-clause-stopped g c =
     let files = g.I.Inputs.files c.args.inputs.now in
-    let before = g.I.Inputs.faults c.args.inputs.now in
-    let mid = g.I.Inputs.faults c.input.new.inputs in
-    let now = g.I.Inputs.faults c.input-2.new.inputs in
-    stops-at files (texts c.args.words.now) c.in-Ok.named.script.now most_text most_text before mid now c.in-Err-input.cause
+    stops-at files (texts c.args.words.now) c.in-Ok.named.script.now most_text most_text c.in-Err-input.cause
     (inr (inl ((files_view c.in-Ok.named, c.in-Ok-input.table.items, c.in-Ok.ensures.files, c.in-Ok-input.ensures.read, refl), refl, refl)))
-    c.input.ensures.counts
-    (subst (λ f. StopsAt f c.in-Ok.named.script.now most_text most_text mid now c.in-Err-input.cause) c.input.ensures.same c.in-Err-input.ensures.stopped)
+    (subst (λ f. StopsAt f c.in-Ok.named.script.now most_text most_text c.in-Err-input.cause) c.input.ensures.same c.in-Err-input.ensures.stopped)
+
+pub returns-in-Err-input-clause-cause : goal.returns-in-Err-input-clause-cause
+returns-in-Err-input-clause-cause g c = λ fits.
+    let mid : g.I.Inputs.faults c.input.new.inputs ≡ g.I.Inputs.faults c.args.inputs.now = c.in-Ok-input.ensures.cause fits in
+    subst (λ (n : ℕ). InputCause n (g.I.Inputs.faults c.input-2.new.inputs) c.in-Err-input.cause) mid (c.in-Err-input.ensures.cause (rw mid fits))

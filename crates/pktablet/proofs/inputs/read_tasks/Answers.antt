@@ -1,6 +1,6 @@
-use Rattle.std.proofs.Common.{◌≡◌, ◌≤◌, ap, sym, subst, ◌∙◌, arith, ◌+◌, ◌++◌, ◌∷◌, [], get_or, take}
+use Rattle.std.proofs.Common.{◌≡◌, ℕ, ap, sym, subst, ◌∙◌, arith, ◌+◌, ◌++◌, ◌∷◌, [], get_or, take}
 use Rattle.std.proofs.lemmas.List.{get_or_default}
-use Rattle.pktablet.specs.Runs.{AreTasks, IsTask, TaskStops, bytes_in, task_bytes}
+use Rattle.pktablet.specs.Runs.{AreTasks, InputCause, IsTask, TaskStops, bytes_in, task_bytes}
 use Rattle.pktablet.proofs.InputLaws.{built-at, bytes-push, next-stops, take-next, tasks-push}
 use Rattle.pktablet.proofs.inputs.read_tasks.Goals as goal
 
@@ -12,16 +12,18 @@ returns-in-Err-clause-stopped g c =
     let jobs = c.args.jobs.now in
     let i = c.loop-i.i in
     let job = get_or jobs i c.index-jobs-i.result in
-    let mid = g.I.Inputs.faults c.loop-i.inputs in
-    let now = g.I.Inputs.faults c.read_task.new.inputs in
-    next-stops (g.I.Inputs.files c.args.inputs.now) jobs i job c.loop-i.tasks.items c.loop-i.read (g.I.Inputs.faults c.args.inputs.now) mid now c.in-Err.cause
+    next-stops (g.I.Inputs.files c.args.inputs.now) jobs i job c.loop-i.tasks.items c.loop-i.read c.in-Err.cause
     c.loop-i-test.true
     (get_or_default jobs i c.index-jobs-i.result job c.loop-i-test.true)
     c.loop-i.invariant.2
     c.loop-i.invariant.3
     c.loop-i.invariant.4
-    c.loop-i.invariant.1
-    (subst (λ f. TaskStops f job.act c.loop-i.read mid now c.in-Err.cause) c.loop-i.invariant.0 c.in-Err.ensures.stopped)
+    (subst (λ f. TaskStops f job.act c.loop-i.read c.in-Err.cause) c.loop-i.invariant.0 c.in-Err.ensures.stopped)
+
+pub returns-in-Err-clause-cause : goal.returns-in-Err-clause-cause
+returns-in-Err-clause-cause g c = λ fits.
+    let mid : g.I.Inputs.faults c.loop-i.inputs ≡ g.I.Inputs.faults c.args.inputs.now = c.loop-i.invariant.1 fits in
+    subst (λ (n : ℕ). InputCause n (g.I.Inputs.faults c.read_task.new.inputs) c.in-Err.cause) mid (c.in-Err.ensures.cause (rw mid fits))
 
 pub loop-i-preserved : goal.loop-i-preserved
 loop-i-preserved g c =
@@ -32,8 +34,6 @@ loop-i-preserved g c =
     let done = c.loop-i.tasks.items in
     let task = c.in-Ok.task in
     let pushed = c.in_ok-push.ensures.pushed in
-    let counts = c.read_task.ensures.counts in
-    let earlier = c.loop-i.invariant.1 in
     let sum : bytes_in c.push.new.tasks.items ≡ bytes_in done + task_bytes task = ap bytes_in pushed ∙ bytes-push done task in
     let before = c.loop-i.invariant.3 in
     let size = c.task_bytes-read.ensures in
@@ -41,7 +41,7 @@ loop-i-preserved g c =
     let are : AreTasks files (take i jobs ++ job ∷ []) (done ++ task ∷ []) =
     tasks-push files (take i jobs) done job task c.loop-i.invariant.2 (subst (λ f. IsTask f job.act task) c.loop-i.invariant.0 c.in-Ok.ensures.task) in (
       c.read_task.ensures.same ∙ c.loop-i.invariant.0,
-      omega (arith, counts, earlier),
+      (λ fits. let mid : g.I.Inputs.faults c.loop-i.inputs ≡ g.I.Inputs.faults c.args.inputs.now = c.loop-i.invariant.1 fits in c.in-Ok.ensures.cause (rw mid fits) ∙ mid),
       subst (λ js. AreTasks files js c.push.new.tasks.items) (sym (take-next jobs i c.index-jobs-i.result c.loop-i-test.true)) (subst (λ ts. AreTasks files (take i jobs ++ job ∷ []) ts) (sym pushed) are),
       omega (arith, sum, before, size),
       omega (arith, size, within),

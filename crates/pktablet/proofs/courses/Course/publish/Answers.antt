@@ -1,5 +1,5 @@
 use Rattle.std.proofs.Common.{◌≡◌, refl, ap, sym, subst, ◌∙◌, arith, ◌+◌, Some}
-use Rattle.pk_model.specs.Books.{version}
+use Rattle.pk_model.specs.Books.{greatest_number}
 use Rattle.pk_model.specs.declared.calls.Call.TheVariants as call
 use Rattle.pk_model.specs.declared.books.Book.{Book}
 use Rattle.script_text.specs.Reports.{LoadOutcome, load_call}
@@ -16,7 +16,7 @@ returns c = on-both c.push.result _ _ _ (λ order outcomes bytes read.
     c.load_reply-reply.ensures.may
     (λ place. c.push.ensures.book ∙ c.load_reply-reply.ensures.after place)
     (λ u e f. subst (λ x. LoadOutcome x (Some u) (outcome.Turn c.load_reply-reply.result)) (sym read) (ap outcome.Turn (sym e)))
-    (let same = ap version c.push.ensures.book in let grows = c.load_reply-reply.ensures.grows in omega (arith, same, grows))
+    (let same = ap greatest_number c.push.ensures.book in let grows = c.load_reply-reply.ensures.grows in omega (arith, same, grows))
     (ap (λ (b : Book). b.closed) c.push.ensures.book ∙ c.load_reply-reply.ensures.stays_open)
     c.load_reply-reply.ensures.calm
     (λ h. subst HaveTexts (sym c.push.ensures.book) (c.load_reply-reply.ensures.texts h))
