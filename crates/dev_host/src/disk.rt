@@ -1,5 +1,7 @@
 ghost use Rattle.std.specs.Prelude.{◌≤◌, ◌^◌, IfOk};
 
+use dev_traits::Memory;
+use std::alloc::Global;
 use std::fs::{File, OpenFile, OpenOptions};
 use std::io::{ErrorKind, Read, Seek, SeekFrom, Write};
 use std::rt::Files;
@@ -7,6 +9,16 @@ use std::{fs, io};
 
 /// No area and no file is longer.
 pub(crate) const MOST: u64 = 1 << 44;
+
+// The path of a name in a folder.
+pub(crate) fn path_in(alloc: Global, folder: &str, name: &str) -> Result<String, Memory> {
+    format!(in alloc; "{folder}/{name}")
+}
+
+// The path of the adopted file of a number.
+pub(crate) fn adopted_path(alloc: Global, folder: &str, number: u64) -> Result<String, Memory> {
+    format!(in alloc; "{folder}/f{number}")
+}
 
 // The length of a file that is there and not too long.
 pub(crate) fn length_of<R: Files>(host: &R, path: &str) -> io::Result<u64>

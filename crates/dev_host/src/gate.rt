@@ -1,7 +1,7 @@
 use dev_traits::Gate;
 
 /// A gate that is always open.
-#[derive(Clone, Copy, Debug)]
+#[derive(Clone, Copy)]
 pub struct OpenGate;
 
 impl Gate for OpenGate {

@@ -15,6 +15,3 @@ pub use maker::{HostMaker, HostSealed};
 pub use reader::HostReader;
 pub use sink::HostSink;
 pub use store::HostStore;
-
-#[cfg(test)]
-mod tests;

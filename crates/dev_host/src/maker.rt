@@ -2,7 +2,7 @@ ghost use Rattle.std.specs.Prelude.{◌≡◌, ◌^◌, ◌≤◌, ◌+◌, None
 ghost use Rattle.dev_traits.specs.Causes.{Counts};
 ghost use Rattle.dev_host.specs.Silent.{silent_maker};
 
-use crate::disk::{MOST, make_folder};
+use crate::disk::{MOST, adopted_path, make_folder};
 use dev_traits::{DevError, FileMaker, Memory};
 use std::alloc::Global;
 use std::fs::File;
@@ -55,7 +55,7 @@ fn sealed<R: Files + Clone>(
     requires { size ≤ 2 ^ 44 }
 {
     let made = String::from_str(alloc, made)?;
-    let path = format!(in alloc; "{folder}/f{}", u64::MAX)?;
+    let path = adopted_path(alloc, folder, u64::MAX)?;
     let host = host.clone()?;
     Ok(HostSealed {
         host,

@@ -3,7 +3,8 @@ ghost use Rattle.dev_traits.specs.Causes.{HasCause};
 ghost use Rattle.dev_host.specs.Silent.{silent_view};
 
 use crate::disk::{
-    MOST, length_of, make_folder, read_from, settle, sync_path, write_blank, write_to,
+    MOST, adopted_path, length_of, make_folder, path_in, read_from, settle, sync_path, write_blank,
+    write_to,
 };
 use crate::{HostMaker, HostReader, HostSealed};
 use dev_traits::{DevError, Failed, FileMaker, Memory, SealedReader, Store};
@@ -30,29 +31,30 @@ pub struct HostStore<R: Files> {
     ghost three: { length areas.items ≡ 3 },
 }
 
-// A name in a folder, of one more maker's file or of an area.
-fn path_in(alloc: Global, folder: &str, name: &str) -> Result<String, Memory> {
-    let mut path = String::from_str(alloc, folder)?;
-    path.push('/')?;
-    path.push_str(name)?;
-    Ok(path)
+fn number_in(digits: &str) -> Option<u64> {
+    digits.parse().ok()
 }
 
 // The number of an adopted file's name.
 fn number_of(name: &str) -> Option<u64> {
-    match name.strip_prefix("f") {
-        Some(digits) => digits.parse().ok(),
+    match name.strip_prefix('f') {
+        Some(digits) => number_in(digits),
         None => None,
+    }
+}
+
+// Whether two numbers are joined by a dash.
+fn is_pair(numbers: &str) -> bool {
+    match numbers.split_once('-') {
+        Some((first, second)) => number_in(first).is_some() && number_in(second).is_some(),
+        None => false,
     }
 }
 
 // Whether it is the name of a maker's file.
 fn is_made(name: &str) -> bool {
-    match name.strip_prefix("m") {
-        Some(numbers) => match numbers.split_once('-') {
-            Some((maker, file)) => maker.parse::<u64>().is_ok() && file.parse::<u64>().is_ok(),
-            None => false,
-        },
+    match name.strip_prefix('m') {
+        Some(numbers) => is_pair(numbers),
         None => false,
     }
 }
@@ -82,7 +84,7 @@ impl<R: Files + AllocGlobal + Clone + Drop> HostStore<R> {
     /// Removes the files that were forgotten, and those that makers made and nobody adopted. One that can't be removed stays.
     pub fn sweep(self) {
         for number in &self.noted {
-            if let Ok(path) = format!(in self.alloc; "{}/f{}", self.folder, number) {
+            if let Ok(path) = adopted_path(self.alloc, &self.folder, *number) {
                 let _ = fs::remove_file(&self.host, &path);
             }
         }
@@ -135,6 +137,32 @@ impl<R: Files + AllocGlobal + Clone + Drop> HostStore<R> {
         }
         self.noted = noted;
         Ok(())
+    }
+
+    // A reader of an adopted file.
+    fn open_adopted(&self, number: u64) -> Result<HostReader<R>, DevError>
+        ensures { IfOk result (λ reader. (reader.faults ≡ 0) × (reader.reads ≡ 0)) }
+    {
+        let Ok(path) = adopted_path(self.alloc, &self.folder, number) else {
+            return Err(DevError::Memory);
+        };
+        let Ok(host) = self.host.clone() else {
+            return Err(DevError::Memory);
+        };
+        match length_of(&host, &path) {
+            Ok(size) => Ok(HostReader::new(host, path, size)),
+            Err(error) if error.kind() == ErrorKind::NotFound => Err(DevError::Absent),
+            Err(_) => Err(DevError::Failed),
+        }
+    }
+
+    // Takes the number of an adopted file out of those that are noted.
+    fn keep_adopted(&mut self, number: u64)
+        ensures { self.new.faults ≡ self.old.faults }
+    {
+        if let Some(place) = self.noted.iter().position(|noted| *noted == number) {
+            let _ = self.noted.swap_remove(place);
+        }
     }
 
     // Writes a blank file of its own name, and puts it in the place of an area.
@@ -260,27 +288,16 @@ impl<R: Files + AllocGlobal + Clone + Drop> Store for HostStore<R> {
         }
         let answered = settle(&self.host, &self.folder, &made, &path);
         self.answer(answered)?;
-        if let Some(noted) = self.noted.iter().position(|n| *n == number) {
-            let _ = self.noted.swap_remove(noted);
-        }
+        self.keep_adopted(number);
         Ok(HostReader::new(host, path, size))
     }
 
     fn reader(&mut self, number: u64) -> Result<HostReader<R>, DevError> {
-        let Ok(path) = format!(in self.alloc; "{}/f{}", self.folder, number) else {
-            return Err(DevError::Memory);
-        };
-        let Ok(host) = self.host.clone() else {
-            return Err(DevError::Memory);
-        };
-        match length_of(&host, &path) {
-            Ok(size) => Ok(HostReader::new(host, path, size)),
-            Err(error) if error.kind() == ErrorKind::NotFound => Err(DevError::Absent),
-            Err(_) => {
-                self.faults = self.faults.saturating_add(1);
-                Err(DevError::Failed)
-            }
+        let opened = self.open_adopted(number);
+        if let Err(DevError::Failed) = &opened {
+            self.faults = self.faults.saturating_add(1);
         }
+        opened
     }
 
     fn forget_others(&mut self, keep: &[u64]) -> Result<(), Failed> {

@@ -1,17 +1,18 @@
 -- A file whose bytes are changed.
-use Rattle.std.proofs.Common.{◌≡◌, ℕ, zero, suc, ◌+◌, ◌<◌, nat_eq, Bool, true, false, cond, ◌&&◌, if◌then◌else◌, IsTrue, IsFalse, List, [], ◌∷◌, ◌++◌, length, get_or, set, take, drop, map, Option, Some, None, refl, sym, ◌∙◌, ap, arith}
+use Rattle.std.proofs.Common.{◌≡◌, ℕ, zero, suc, ◌+◌, ◌<◌, ◌≤◌, nat_eq, Bool, true, false, cond, ◌&&◌, if◌then◌else◌, IsFalse, MatchBool, Result, Ok, Err, IfOk, OnErr, List, [], ◌∷◌, ◌++◌, length, get_or, set, take, drop, map, Option, Some, None, refl, sym, ◌∙◌, ap, arith}
 use Rattle.std.proofs.lemmas.List.{take_more, take-append-drop, set_split, length-set, take_all, drop_all, append-nil}
 use Rattle.std.proofs.Math.Seq.{drop-cons}
 use Rattle.std.proofs.lemmas.Bool.{and_parts, and_from, eqb-true}
 use Rattle.std.proofs.lemmas.Cmp.{nat_cmp_total}
 use Rattle.std.specs.List.{list_all}
 use Rattle.std.specs.Ordering.{nat_cmp, eq_by_cmp}
+use Rattle.std.specs.declared.alloc.AllocError.{AllocError}
 use Rattle.std.specs.FinMap.{FinMap, get, insert, from_entries, get-insert, get-from_entries, same_map, nat_cmp-IsAntisymmetric}
 use Rattle.std.specs.FinMap.Entries.{find}
 use Rattle.dev_memory.specs.Disk.{Held, disk_now, at_rest, replay, entries_at, stands_at, settled_by}
-use Rattle.dev_memory.specs.Spoils.{Spoils, ChangesOne}
+use Rattle.dev_memory.specs.Spoils.{Spoils, ChangesOne, HasNoByte}
 use Rattle.dev_memory.specs.declared.call.File.{File}
-use Rattle.dev_memory.proofs.Files.{tied, ties, find_skip, entries-push}
+use Rattle.dev_memory.proofs.Files.{tied, ties, find_skip, entries-push, find-here}
 
 find_none : (q : ℕ) (xs ys : List (ℕ × List ℕ)) → find nat_cmp q xs ≡ None → find nat_cmp q (xs ++ ys) ≡ find nat_cmp q ys
 find_none q [] ys none = refl
@@ -140,9 +141,57 @@ pub record Changed (n : ℕ) (old new : List File) : Type 0 where
   pub size : length new ≡ length old
   pub settled : list_all (settled_by n) old ≡ true → list_all (settled_by n) new ≡ true
 
-pub changed_or_same : (n number k at byte : ℕ) (old new : List File) (done : Bool) → (IsTrue done → ChangesOne number k at byte old new) → (IsFalse done → new ≡ old) → Changed n old new
-changed_or_same n number k at byte old new true changes same =
-    let one = changes refl in
+unchanged : (n : ℕ) (old new : List File) → new ≡ old → Changed n old new
+unchanged n old new same = record { size = ap length same; settled = λ all. ap (list_all (settled_by n)) same ∙ all }
+
+pub changed_or_same : (n number k at byte : ℕ) (old new : List File) (Else : Type 0) (result : Result Bool AllocError)
+    → IfOk result (λ done. MatchBool done (ChangesOne number k at byte old new) Else) → IfOk result (λ done. IsFalse done → new ≡ old) → OnErr result (new ≡ old) → Changed n old new
+changed_or_same n number k at byte old new Else (Ok true) one same memory =
     record { size = ap length one.new_is ∙ length-set old one.place one.changed; settled = settled_changed n number k at byte old new one }
-changed_or_same n number k at byte old new false changes same =
-    record { size = ap length (same refl); settled = λ all. ap (list_all (settled_by n)) (same refl) ∙ all }
+changed_or_same n number k at byte old new Else (Ok false) other same memory = unchanged n old new (same refl)
+changed_or_same n number k at byte old new Else (Err e) ok same memory = unchanged n old new memory
+
+-- What an answer says, said otherwise.
+
+pub says : (result : Result Bool AllocError) (P Q P' Q' : Type 0) → IfOk result (λ done. MatchBool done P Q) → (P → P') → (Q → Q') → IfOk result (λ done. MatchBool done P' Q')
+says (Ok true) P Q P' Q' is to other = to is
+says (Ok false) P Q P' Q' is to other = other is
+says (Err e) P Q P' Q' is to other = tt
+
+pub says_same : (result : Result Bool AllocError) (P P' : Type 0) → IfOk result (λ done. IsFalse done → P) → (P → P') → IfOk result (λ done. IsFalse done → P')
+says_same (Ok done) P P' is to = λ not_done. to (is not_done)
+says_same (Err e) P P' is to = tt
+
+pub says_memory : (result : Result Bool AllocError) (P P' : Type 0) → OnErr result P → (P → P') → OnErr result P'
+says_memory (Ok done) P P' is to = tt
+says_memory (Err e) P P' is to = to is
+
+-- Where no byte is changed.
+
+found_here : (q k : ℕ) (files : List File) (i : ℕ) (d : File) → i < length files → (nat_eq (get_or files i d).number q && stands_at k (get_or files i d)) ≡ true
+    → find nat_cmp q (entries_at k (take i files)) ≡ None → find nat_cmp q (entries_at k files) ≡ Some (get_or files i d).bytes
+found_here q k files i d lt test none =
+    ap (λ (l : List File). find nat_cmp q (entries_at k l)) (sym (take-append-drop i files))
+    ∙ ap (find nat_cmp q) (entries-append k (take i files) (drop i files))
+    ∙ find_none q (entries_at k (take i files)) (entries_at k (drop i files)) none
+    ∙ find-here q k files i d lt test
+
+-- the file that is found is too short
+pub too_short : (q k at : ℕ) (files : List File) (i : ℕ) (d : File) → i < length files → (nat_eq (get_or files i d).number q && stands_at k (get_or files i d)) ≡ true
+    → find nat_cmp q (entries_at k (take i files)) ≡ None → length (get_or files i d).bytes ≤ at → HasNoByte at (find nat_cmp q (entries_at k files))
+too_short q k at files i d lt test none short bytes is =
+    let both : Some (get_or files i d).bytes ≡ Some bytes = sym (found_here q k files i d lt test none) ∙ is in
+    let same : (get_or files i d).bytes ≡ bytes = cc in
+    omega (arith, ap length same, short)
+
+-- no file is found
+pub not_there : (q k at : ℕ) (files : List File) (i : ℕ) → length files ≤ i → find nat_cmp q (entries_at k (take i files)) ≡ None → HasNoByte at (find nat_cmp q (entries_at k files))
+not_there q k at files i le none bytes is =
+    let nothing : find nat_cmp q (entries_at k files) ≡ None = ap (λ (l : List File). find nat_cmp q (entries_at k l)) (sym (take_all i files le)) ∙ none in
+    let e : None ≡ Some bytes = sym nothing ∙ is in
+    absurd (cc)
+
+-- of the disk of what is kept
+pub no_byte : (number at k : ℕ) (old : Held) → k ≡ length old.deeds → HasNoByte at (find nat_cmp number (entries_at k old.files)) → HasNoByte at (get (disk_now old).files number)
+no_byte number at k old count none bytes is =
+    none bytes (ap (λ (n : ℕ). find nat_cmp number (entries_at n old.files)) count ∙ sym (get-from_entries nat_cmp_total (entries_at (length old.deeds) old.files) number) ∙ is)

@@ -1,5 +1,5 @@
 -- A byte of a file is changed.
-use Rattle.std.specs.Prelude.{◌≡◌, ℕ, ◌<◌, nat_eq, ◌&&◌, true, List, length, get_or, set, take, Some, None}
+use Rattle.std.specs.Prelude.{◌≡◌, ℕ, ◌<◌, ◌≤◌, nat_eq, ◌&&◌, true, List, length, get_or, set, take, Option, Some, None}
 use Rattle.std.specs.Ordering.{nat_cmp}
 use Rattle.std.specs.FinMap.{get, insert}
 use Rattle.std.specs.FinMap.Entries.{find}
@@ -12,6 +12,10 @@ pub record Spoils (number at byte : ℕ) (old new : Disk) : Type 0 where
   pub there : get old.files number ≡ Some bytes
   pub inside : at < length bytes
   pub spoilt : new ≡ record { areas = old.areas; files = insert old.files number (set bytes at byte) }
+
+-- there is no file, or it has no byte at this place
+abbrev pub HasNoByte : ℕ → Option (List ℕ) → Type 0
+HasNoByte at file = (bytes : List ℕ) → file ≡ Some bytes → length bytes ≤ at
 
 -- of a file that is kept
 pub record ChangesFile (at byte : ℕ) (old new : File) : Type 0 where

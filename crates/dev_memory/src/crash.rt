@@ -10,7 +10,7 @@ use pk_values::Octets;
 use std::alloc::Global;
 
 /// What a crash leaves of a write, or of a blanking that failed.
-#[derive(Clone, Copy, Debug, PartialEq, Eq)]
+#[derive(Clone, Copy, PartialEq, Eq)]
 pub enum Trace {
     /// What is read: all of what is done, and nothing of what failed.
     Read,

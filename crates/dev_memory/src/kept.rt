@@ -1,5 +1,6 @@
-ghost use Rattle.std.specs.Prelude.{◌≡◌, ◌+◌, ◌^◌, ◌≤◌, ◌<◌, ◌++◌, ◌∷◌, [], ℕ, true, false, nat_eq, ◌&&◌, map, length, option_map, vec_len, vec_capacity, OnOk, OnErr, IfOk, IsTrue, IsFalse};
-ghost use Rattle.dev_memory.specs.Spoils.{ChangesFile, ChangesOne, Spoils};
+ghost use Rattle.std.specs.Prelude.{◌≡◌, ◌+◌, ◌^◌, ◌≤◌, ◌<◌, ◌++◌, ◌∷◌, [], ℕ, true, false, nat_eq, ◌&&◌, map, length, option_map, vec_len, vec_capacity, OnOk, OnErr, IfOk, IsFalse, MatchBool};
+ghost use Rattle.dev_memory.specs.Spoils.{ChangesFile, ChangesOne, HasNoByte, Spoils};
+ghost use Rattle.std.specs.FinMap.{get};
 ghost use Rattle.std.specs.Ordering.{nat_cmp};
 ghost use Rattle.std.specs.List.{list_all};
 ghost use Rattle.std.specs.FinMap.Entries.{find};
@@ -92,15 +93,20 @@ fn close_others(files: &mut [File], keep: &[u64], now: u64)
     }
 }
 
-// Changes a byte of a file, and tells whether it did.
-fn change(alloc: Global, file: &mut File, at: u64, byte: u8) -> bool
-    ensures done { IsTrue result → ChangesFile at byte file.old file.new }
-    ensures same { IsFalse result → file.new ≡ file.old }
+// Changes a byte of a file, and tells whether it has one there.
+fn change(alloc: Global, file: &mut File, at: u64, byte: u8) -> Result<bool, Memory>
+    ensures changed { IfOk result (λ changed. MatchBool changed (ChangesFile at byte file.old file.new) (length file.old.bytes ≤ at)) }
+    ensures same { IfOk result (λ changed. IsFalse changed → file.new ≡ file.old) }
+    ensures memory { OnErr result (file.new ≡ file.old) }
 {
-    at < file.bytes.as_slice().len() as u64 && file.bytes.change(alloc, at as usize, byte).is_ok()
+    if at >= file.bytes.as_slice().len() as u64 {
+        return Ok(false);
+    }
+    file.bytes.change(alloc, at as usize, byte)?;
+    Ok(true)
 }
 
-// Changes a byte of the file that is read under a number.
+// Changes a byte of the file that is read under a number, and tells whether there is one.
 fn change_file(
     alloc: Global,
     files: &mut [File],
@@ -108,16 +114,17 @@ fn change_file(
     calls: u64,
     at: u64,
     byte: u8,
-) -> bool
-    ensures done { IsTrue result → ChangesOne number calls at byte files.old files.new }
-    ensures same { IsFalse result → files.new ≡ files.old }
+) -> Result<bool, Memory>
+    ensures changed { IfOk result (λ changed. MatchBool changed (ChangesOne number calls at byte files.old files.new) (HasNoByte at (find nat_cmp number (entries_at calls files.old)))) }
+    ensures same { IfOk result (λ changed. IsFalse changed → files.new ≡ files.old) }
+    ensures memory { OnErr result (files.new ≡ files.old) }
 {
     for i in 0..files.len() {
         if is_standing(&files[i], number, calls) {
             return change(alloc, &mut files[i], at, byte);
         }
     }
-    false
+    Ok(false)
 }
 
 // Takes memory for so many bytes more in each area.
@@ -370,11 +377,12 @@ impl Kept {
         self.spare_calls -= 1;
     }
 
-    /// Changes a byte of an adopted file, and tells whether it did.
-    pub fn spoil(&mut self, alloc: Global, number: u64, at: u64, byte: u8) -> bool
+    /// Changes a byte of an adopted file, and tells whether there is one.
+    pub fn spoil(&mut self, alloc: Global, number: u64, at: u64, byte: u8) -> Result<bool, Memory>
         ensures valid { IsValid self.new.held }
-        ensures done { IsTrue result → Spoils number at byte (disk_now self.old.held) (disk_now self.new.held) }
-        ensures same { IsFalse result → self.new.held ≡ self.old.held }
+        ensures spoilt { IfOk result (λ spoilt. MatchBool spoilt (Spoils number at byte (disk_now self.old.held) (disk_now self.new.held)) (HasNoByte at (get (disk_now self.old.held).files number))) }
+        ensures same { IfOk result (λ spoilt. IsFalse spoilt → self.new.held ≡ self.old.held) }
+        ensures memory { OnErr result (self.new.held ≡ self.old.held) }
         ensures deeds { self.new.held.deeds ≡ self.old.held.deeds }
         ensures calls { self.new.spare_calls ≡ self.old.spare_calls }
         ensures bytes { self.new.spare_bytes ≡ self.old.spare_bytes }

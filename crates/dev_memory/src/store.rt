@@ -341,7 +341,9 @@ impl MemStore {
     ghost use Rattle.std.specs.Prelude.{Some};
     ghost use Rattle.dev_memory.specs.Crash.{AreSynced};
     ghost use Rattle.dev_memory.specs.Images.{image_of, IsShort};
-    ghost use Rattle.dev_memory.specs.Spoils.{Spoils};
+    ghost use Rattle.std.specs.Prelude.{MatchBool};
+    ghost use Rattle.std.specs.FinMap.{get};
+    ghost use Rattle.dev_memory.specs.Spoils.{HasNoByte, Spoils};
     ghost use Rattle.dev_memory.specs.Store.{Begins, Lists, empty_image, held_of, disk_of, view_of, SameCounts, Uncounted};
 
     /// A store of three empty areas, without a file.
@@ -375,18 +377,21 @@ impl MemStore {
 
     /// Changes the byte at a place of an adopted file, and answers true: the store isn't honest from then on, reads the changed file, and leaves
     /// it in crashes, too. A reader in hand still reads the bytes from before. It answers false, and changes nothing, where there is no such file
-    /// or place, and where memory for a copy of the file is wanting.
-    pub fn spoil(&mut self, number: u64, at: u64, byte: u8) -> bool
-        ensures spoilt { IsTrue result → Spoils number at byte (disk_of self.old) (disk_of self.new) }
-        ensures dishonest { IsTrue result → IsFalse (view_of self.new).is_honest }
-        ensures same { IsFalse result → held_of self.new ≡ held_of self.old }
-        ensures as_honest { IsFalse result → (view_of self.new).is_honest ≡ (view_of self.old).is_honest }
+    /// or place.
+    ///
+    /// # Errors
+    /// Want of memory for a copy of the file. Nothing is changed then.
+    pub fn spoil(&mut self, number: u64, at: u64, byte: u8) -> Result<bool, Memory>
+        ensures spoilt { IfOk result (λ spoilt. MatchBool spoilt (Spoils number at byte (disk_of self.old) (disk_of self.new)) (HasNoByte at (get (disk_of self.old).files number))) }
+        ensures honest { IfOk result (λ spoilt. MatchBool spoilt (IsFalse (view_of self.new).is_honest) ((view_of self.new).is_honest ≡ (view_of self.old).is_honest)) }
+        ensures same { IfOk result (λ spoilt. IsFalse spoilt → held_of self.new ≡ held_of self.old) }
+        ensures memory { OnErr result ((held_of self.new ≡ held_of self.old) × ((view_of self.new).is_honest ≡ (view_of self.old).is_honest)) }
         ensures counts { SameCounts (view_of self.old) (view_of self.new) }
         ensures uncounted { Uncounted self.old self.new }
     {
-        let spoilt = self.kept.spoil(self.alloc, number, at, byte);
+        let spoilt = self.kept.spoil(self.alloc, number, at, byte)?;
         self.is_honest = self.is_honest && !spoilt;
-        spoilt
+        Ok(spoilt)
     }
 
     /// A store that a crash left as this image: three areas, and none of them and no file above 2^44 bytes. Of each number the first file counts.

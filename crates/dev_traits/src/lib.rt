@@ -17,6 +17,3 @@ pub use outside::{DevError, Failed, Memory};
 pub use reader::SealedReader;
 pub use store::Store;
 pub use streams::{Asked, Inputs, Put, Sink, Source, Taken};
-
-#[cfg(test)]
-mod tests;

@@ -21,7 +21,7 @@ pub enum Asked<X> {
 }
 
 /// What a read gives.
-#[derive(Clone, Copy, Debug, PartialEq, Eq)]
+#[derive(Clone, Copy)]
 pub enum Taken {
     /// So many bytes stand at the front of the buffer, at least one.
     Bytes(usize),
@@ -32,7 +32,7 @@ pub enum Taken {
 }
 
 /// What a write gives.
-#[derive(Clone, Copy, Debug, PartialEq, Eq)]
+#[derive(Clone, Copy)]
 pub enum Put {
     /// So many bytes from the front of the piece were taken, at least one.
     Took(usize),

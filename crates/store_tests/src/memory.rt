@@ -1,10 +1,7 @@
-ghost use Rattle.std.specs.Prelude.{◌<◌};
-
-use crate::stores::{failing, leaves, with_file};
+use crate::stores::{failing, leaves, made, reads_from, with_file, write_since_a_sync};
+use crate::streams::{gives, puts};
 use dev_memory::{Faults, Image, MemInputs, MemSink, MemStore};
-use dev_traits::{
-    Asked, DevError, FileMaker, Inputs, Memory, Put, SealedReader, Sink, Source, Store, Taken,
-};
+use dev_traits::{Asked, DevError, Inputs, Memory, SealedReader, Store};
 use pk_values::Octets;
 use std::alloc::Global;
 use std::test::Fail;
@@ -12,9 +9,13 @@ use std::test::Fail;
 #[test]
 fn a_sink_keeps_what_is_put(rt: HostRuntime) -> Result<(), Fail> {
     let mut sink = MemSink::new(rt.alloc(), 4, [2].to_vec(rt.alloc())?);
-    assert_eq!(rt; sink.put(b"order"), Put::Took(4));
-    assert_eq!(rt; sink.put(b"r"), Put::Failed);
-    assert_eq!(rt; sink.put(b"r"), Put::Took(1));
+    for (piece, took) in [
+        (b"order".as_slice(), Some(4)),
+        (b"r".as_slice(), None),
+        (b"r".as_slice(), Some(1)),
+    ] {
+        assert!(rt; puts(&mut sink, piece, took));
+    }
     assert_eq!(rt; sink.written(), b"order".as_slice());
     Ok(())
 }
@@ -33,18 +34,13 @@ fn two_of_a_name(alloc: Global) -> Result<MemInputs, Memory> {
 fn inputs_give_the_first_file_of_a_name(rt: HostRuntime) -> Result<(), Fail> {
     let alloc = rt.alloc();
     let mut inputs = two_of_a_name(alloc)?;
-    let mut piece = [0u8; 2];
-    match inputs.ask(alloc, "a") {
-        Asked::Got(mut src) => {
-            assert_eq!(rt; src.take(&mut piece), Taken::Bytes(2));
-            assert_eq!(rt; piece.as_slice(), b"xy".as_slice());
-            assert_eq!(rt; src.take(&mut piece), Taken::Bytes(1));
-            assert_eq!(rt; src.take(&mut piece), Taken::Failed);
-            assert_eq!(rt; src.take(&mut piece), Taken::End);
-            inputs.give_back(src);
-        }
-        _ => assert!(rt; false),
-    }
+    let takes = [
+        Some(b"xy".as_slice()),
+        Some(b"z".as_slice()),
+        None,
+        Some(b"".as_slice()),
+    ];
+    assert!(rt; gives(alloc, &mut inputs, "a", &takes));
     assert!(rt; matches!(inputs.ask(alloc, "b"), Asked::Absent));
     Ok(())
 }
@@ -59,14 +55,6 @@ fn a_blanked_area_has_one_byte(rt: HostRuntime) -> Result<(), Fail> {
     assert_eq!(rt; store.sync(1), Ok(()));
     assert_eq!(rt; store.faults(), 0);
     Ok(())
-}
-
-// A file of two pieces.
-fn made<M: FileMaker>(maker: &mut M, first: &[u8], second: &[u8]) -> Result<M::Sealed, DevError> {
-    maker.start()?;
-    maker.add(first)?;
-    maker.add(second)?;
-    maker.seal()
 }
 
 // Takes a file of two pieces in where the store has none of its number.
@@ -145,29 +133,6 @@ fn a_store_fails_exactly_where_it_is_listed(rt: HostRuntime) -> Result<(), Fail>
     Ok(())
 }
 
-// Writes over an area that is long enough.
-fn write_inside<S: Store>(store: &mut S, area: u32, at: u64, piece: &[u8]) -> bool
-    requires { area < 3 }
-{
-    if store.room(1, piece.len() as u64).is_err() {
-        return false;
-    }
-    match store.length(area) {
-        Ok(length) => 1 <= length && at <= length && store.write_at(area, at, piece).is_ok(),
-        Err(_) => false,
-    }
-}
-
-// Area 0 has the five bytes from a sync, and a write since over the last two and past the end.
-fn write_since_a_sync<S: Store>(store: &mut S) -> Result<bool, Memory> {
-    store.room(1, 0)?;
-    if store.blank(0).is_err() || !write_inside(store, 0, 1, b"abcd") {
-        return Ok(false);
-    }
-    store.room(1, 0)?;
-    Ok(store.sync(0).is_ok() && write_inside(store, 0, 3, b"wxyz"))
-}
-
 // What the image of a number has of that area.
 fn left_of_the_write(pick: u64) -> &'static [u8] {
     match pick {
@@ -201,31 +166,19 @@ fn has_first(image: &Image, number: u64, bytes: &[u8]) -> bool {
     }
 }
 
-// Whether a reader reads these three bytes.
-fn reads<R: SealedReader>(reader: &mut R, bytes: &[u8]) -> bool {
-    if reader.length() != 3 {
-        return false;
-    }
-    let mut into = [0u8; 3];
-    match reader.read_at(0, &mut into) {
-        Ok(()) => into.as_slice() == bytes,
-        Err(_) => false,
-    }
-}
-
 #[test]
 fn a_byte_of_a_file_is_spoilt(rt: HostRuntime) -> Result<(), Fail> {
     let alloc = rt.alloc();
     let mut store = with_file(alloc, 7, b"abc")?;
-    assert!(rt; store.spoil(7, 1, b'x'));
-    assert!(rt; !store.spoil(7, 3, b'x'));
-    assert!(rt; !store.spoil(8, 0, b'x'));
+    assert!(rt; store.spoil(7, 1, b'x')?);
+    assert!(rt; !store.spoil(7, 3, b'x')?);
+    assert!(rt; !store.spoil(8, 0, b'x')?);
     let Ok(mut reader) = store.reader(7) else {
         assert!(rt; false);
         return Ok(());
     };
-    assert!(rt; store.spoil(7, 0, b'y'));
-    assert!(rt; reads(&mut reader, b"axc"));
+    assert!(rt; store.spoil(7, 0, b'y')?);
+    assert!(rt; reads_from(&mut reader, 0, b"axc"));
     store.give_back_reader(reader);
     assert!(rt; has_first(&store.image(alloc, 0)?, 7, b"yxc"));
     Ok(())

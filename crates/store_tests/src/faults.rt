@@ -1,4 +1,4 @@
-use crate::{Damaged, DevError, Failed, MakeFault, OutsideFault, Part, ReadFault, Shown};
+use dev_traits::{Damaged, DevError, Failed, MakeFault, OutsideFault, Part, ReadFault, Shown};
 use std::alloc::{AllocError, AllocFailed};
 
 #[test]
