@@ -3,6 +3,7 @@ pub mod Lengths
 pub mod OneCell
 pub mod RunFacts
 pub mod Joined
+pub mod Pieces
 pub mod WordFacts
 pub mod ReadFacts
 pub mod PageFacts

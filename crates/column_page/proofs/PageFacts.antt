@@ -8,10 +8,21 @@ use Rattle.column_page.proofs.WordFacts.{at_place, each_among, place-lt, words_a
 use Rattle.pk_values.specs.declared.cells.Value.{Value}
 use Rattle.pk_values.specs.declared.cells.Column.{Column}
 use Rattle.column_page.specs.CellBytes.{cell_bytes, u16_bytes}
-use Rattle.column_page.specs.Page.{Cell, dictionary, distinct_after, is_among, place, places, run_bytes, run_length, runs}
+use Rattle.column_page.specs.Page.{Cell, dictionary, distinct_after, is_among, page, place, places, plain, run_bytes, run_length, runs}
 use Rattle.column_page.specs.Reading.{AreCells, CellsThen, HavePlaced, IsCellOf, PlacesOf, RunsOf}
 use Rattle.column_page.proofs.ReadFacts.{cells_of, u16_step}
 use Rattle.column_page.proofs.RunFacts.{expanded-runs, runs_all, runs_few}
+
+-- ---- the form of a page, by its first byte
+
+pub is_plain : (cells : List Cell) (body : List ℕ) → page cells ≡ 0 ∷ body → plain cells ≡ 0 ∷ body
+is_plain cells body e = grind arith
+
+pub is_runs : (cells : List Cell) (body : List ℕ) → page cells ≡ 1 ∷ body → run_length cells ≡ 1 ∷ body
+is_runs cells body e = grind arith
+
+pub is_dictionary : (cells : List Cell) (body : List ℕ) → page cells ≡ 2 ∷ body → dictionary cells ≡ 2 ∷ body
+is_dictionary cells body e = grind arith
 
 pub runs_read : (column : Column) (total count : ℕ) (bytes : List ℕ) (cells : List Value) → AreCells column count cells → run_length (map (cell_bytes column) cells) ≡ 1 ∷ bytes → total < 2 ^ 16 → take 2 bytes ≡ u16_bytes total → RunsOf column total count (drop 2 bytes) (runs (map (cell_bytes column) cells))
 runs_read column total count bytes cells are e fits front =

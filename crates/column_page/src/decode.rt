@@ -2,7 +2,7 @@ ghost use Rattle.std.specs.Prelude.{◌≡◌, ◌+◌, ◌≤◌, ◌<◌, ◌^
 ghost use Rattle.pk_values.specs.Fits.{fits};
 ghost use Rattle.pk_values.specs.Schemas.{is_kind};
 ghost use Rattle.column_page.specs.CellBytes.{cell_bytes};
-ghost use Rattle.column_page.specs.Page.{dictionary, plain, run_bytes, run_length, AllFit, Cell};
+ghost use Rattle.column_page.specs.Page.{page, run_bytes, AllFit, Cell};
 ghost use Rattle.column_page.specs.Reading.{expanded, CellsThen, IsCellOf, NoCells, OnlyCells, PlacesOf, RunsOf};
 ghost use Rattle.pk_values.specs.declared.cells.Value.{Value};
 ghost use Rattle.std.specs.List.{AllPass};
@@ -13,14 +13,14 @@ use pk_values::{Column, Value};
 use std::alloc::Global;
 
 /// Cells that were read, and how many bytes they took.
-#[derive(Debug, Drop)]
+#[derive(Drop)]
 struct ReadCells {
     values: Vec<Value>,
     len: usize,
 }
 
 /// A run that was read, and how many bytes it took.
-#[derive(Debug, Drop)]
+#[derive(Drop)]
 struct ReadRun {
     value: Value,
     count: u16,
@@ -97,8 +97,8 @@ pub fn read_plain(
 ) -> Result<Vec<Value>, PageFault>
     requires { IsTrue (is_kind column.now.kind) }
     ensures fits { IfOk result (λ found. AllFit column.now found.items) }
-    ensures only { IfOk result (λ found. OnlyCells column.now count plain (0 ∷ bytes.now) found.items) }
-    ensures none { IfErr result (λ e. e ≡ PageFault.NotAPage → NoCells column.now count plain (0 ∷ bytes.now)) }
+    ensures only { IfOk result (λ found. OnlyCells column.now count page (0 ∷ bytes.now) found.items) }
+    ensures none { IfErr result (λ e. e ≡ PageFault.NotAPage → NoCells column.now count page (0 ∷ bytes.now)) }
 {
     let read = read_cells(alloc, column, count as usize, bytes)?;
     Ok(read.values)
@@ -159,8 +159,8 @@ pub fn read_runs(
 ) -> Result<Vec<Value>, PageFault>
     requires { IsTrue (is_kind column.now.kind) }
     ensures fits { IfOk result (λ found. AllFit column.now found.items) }
-    ensures only { IfOk result (λ found. OnlyCells column.now count run_length (1 ∷ bytes.now) found.items) }
-    ensures none { IfErr result (λ e. e ≡ PageFault.NotAPage → NoCells column.now count run_length (1 ∷ bytes.now)) }
+    ensures only { IfOk result (λ found. OnlyCells column.now count page (1 ∷ bytes.now) found.items) }
+    ensures none { IfErr result (λ e. e ≡ PageFault.NotAPage → NoCells column.now count page (1 ∷ bytes.now)) }
 {
     let Some(total) = read_u16(bytes) else {
         return Err(PageFault::NotAPage);
@@ -206,8 +206,8 @@ pub fn read_dictionary(
 ) -> Result<Vec<Value>, PageFault>
     requires { IsTrue (is_kind column.now.kind) }
     ensures fits { IfOk result (λ found. AllFit column.now found.items) }
-    ensures only { IfOk result (λ found. OnlyCells column.now count dictionary (2 ∷ bytes.now) found.items) }
-    ensures none { IfErr result (λ e. e ≡ PageFault.NotAPage → NoCells column.now count dictionary (2 ∷ bytes.now)) }
+    ensures only { IfOk result (λ found. OnlyCells column.now count page (2 ∷ bytes.now) found.items) }
+    ensures none { IfErr result (λ e. e ≡ PageFault.NotAPage → NoCells column.now count page (2 ∷ bytes.now)) }
 {
     let Some(number) = read_u16(bytes) else {
         return Err(PageFault::NotAPage);

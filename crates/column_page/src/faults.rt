@@ -1,7 +1,7 @@
 use thiserror::Error;
 
 /// Why bytes give no cells.
-#[derive(Clone, Copy, Debug, Drop, PartialEq, Eq, Error)]
+#[derive(Debug, Drop, Error)]
 pub enum PageFault {
     /// No cells of the column have this page.
     #[error("the bytes are no page of the column")]
@@ -12,7 +12,7 @@ pub enum PageFault {
 }
 
 /// Why bytes give no footer.
-#[derive(Clone, Copy, Debug, Drop, PartialEq, Eq, Error)]
+#[derive(Debug, Drop, Error)]
 pub enum FooterFault {
     /// The bytes are the footer of no segment.
     #[error("the bytes are no footer of a segment")]

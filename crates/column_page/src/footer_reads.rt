@@ -15,19 +15,19 @@ use fixed_code::get;
 use pk_values::Items;
 use std::alloc::Global;
 
-#[derive(Debug, Drop)]
+#[derive(Drop)]
 struct ReadMark {
     mark: ColumnMark,
     len: usize,
 }
 
-#[derive(Debug, Drop)]
+#[derive(Drop)]
 struct ReadMarks {
     marks: Vec<ColumnMark>,
     len: usize,
 }
 
-#[derive(Debug, Drop)]
+#[derive(Drop)]
 struct ReadBlock {
     block: BlockMark,
     len: usize,

@@ -9,8 +9,9 @@ use pk_values::Octets;
 use sha2::{Digest, Sha256};
 use std::alloc::{AllocError, Global};
 
+/// Appends a number in four bytes, the high one first.
 #[tactic(auto, unfolding(crate::specs::Footers::u32_bytes))]
-fn put_u32(out: &mut Vec<u8>, number: u32) -> Result<(), AllocError>
+pub fn put_u32(out: &mut Vec<u8>, number: u32) -> Result<(), AllocError>
     ensures { OnOk result (out.new.items ≡ out.old.items ++ u32_bytes number) }
 {
     let mut bytes = [0; 4];

@@ -3,14 +3,14 @@ use std::alloc::{AllocError, Global};
 
 /// The least and the greatest of the cells of a block's column that are not NULL, as numbers: a
 /// BOOLEAN is 0 or 1, and a DATE is its day.
-#[derive(Clone, Copy, Debug, PartialEq, Eq)]
+#[derive(Clone, Copy, PartialEq)]
 pub struct Span {
     pub least: i128,
     pub greatest: i128,
 }
 
 /// What a footer tells of a column in a block.
-#[derive(Clone, Copy, Debug, PartialEq, Eq)]
+#[derive(Clone, Copy, PartialEq)]
 pub struct ColumnMark {
     /// Whether some cell is NULL.
     pub nulls: bool,
@@ -19,7 +19,7 @@ pub struct ColumnMark {
 }
 
 /// What a footer tells of a block.
-#[derive(Debug, Drop)]
+#[derive(Drop)]
 pub struct BlockMark {
     /// The place of its first byte in the file, counted from 0.
     pub place: u64,
@@ -48,7 +48,7 @@ impl BlockMark {
 }
 
 /// The footer of a segment: how many columns and rows it has, and what is told of each block.
-#[derive(Debug, Drop)]
+#[derive(Drop)]
 pub struct Footer {
     pub(crate) columns: u32,
     pub(crate) rows: u32,

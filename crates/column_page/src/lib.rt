@@ -18,7 +18,7 @@ mod whole_footers;
 mod words;
 
 pub use faults::{FooterFault, PageFault};
-pub use footer_writes::write_footer;
+pub use footer_writes::{put_u32, write_footer};
 pub use footers::{BlockMark, ColumnMark, Footer, Span};
 pub use laws::column_marks;
 pub use marks::mark_of;

@@ -13,7 +13,7 @@ use pk_values::{Column, Kind, Octets, Value, by_kind};
 use std::alloc::Global;
 
 /// A value that was read, and how many bytes it took.
-#[derive(Debug, Drop)]
+#[derive(Drop)]
 pub struct ReadValue {
     pub value: Value,
     pub len: usize,

@@ -30,10 +30,10 @@ OfBlock f b P = (mark : BlockMark) → slice_get f.blocks b ≡ Some mark → P 
 abbrev pub block_in : List ℕ → BlockMark → List ℕ
 block_in file mark = take (mark.length + 32) (drop mark.place file)
 
--- a reader of the same file after so many reads more, none of which failed; counts stop at the last u64
+-- a reader of the same file after so many reads more, none of which failed; the number of reads stops at the last u64
 pub record HasRead (count : ℕ) (old new : ReaderView) : Type 0 where
   pub same : SameFile old new
-  pub reads : Counts count old.reads new.reads
+  pub reads : new.reads ≡ min (old.reads + count) (2 ^ 64 - 1)
   pub unfailed : new.faults ≡ old.faults
 
 -- a reader of the same file after at most so many reads more, none of which failed

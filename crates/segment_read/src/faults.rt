@@ -4,7 +4,7 @@ ghost use Rattle.segment_read.specs.Reads.{fault_of};
 use dev_traits::{Damaged, Part, ReadFault, Shown};
 
 /// Why the bytes of a part of a file aren't read as such.
-#[derive(Clone, Copy, Debug, Drop)]
+#[derive(Drop)]
 pub enum PartFault {
     Damaged(Shown),
     Memory,

@@ -12,7 +12,7 @@ use pk_values::{Column, Value};
 use std::alloc::Global;
 
 /// The cells of a page, and how many bytes it took with its length.
-#[derive(Debug, Drop)]
+#[derive(Drop)]
 pub struct ReadPage {
     pub cells: Vec<Value>,
     pub len: usize,

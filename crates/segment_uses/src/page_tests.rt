@@ -40,7 +40,10 @@ fn equal_numbers_go_as_one_run(rt: HostRuntime) -> Result<(), Fail> {
     let alloc = rt.alloc();
     let ints = column(alloc, b"n", Kind::Int, false, None)?;
     let page = b"\x01\x00\x01\x00\x03\x80\x00\x00\x05".as_slice();
-    let cells = [Value::Num(5), Value::Num(5), Value::Num(5)];
+    let mut cells = Vec::new(alloc);
+    for number in [5, 5, 5] {
+        cells.push(Value::Num(number))?;
+    }
     goes_both_ways(&rt, alloc, &ints, &cells, page)?;
     let apart = b"\x01\x00\x02\x00\x01\x80\x00\x00\x05\x00\x02\x80\x00\x00\x05".as_slice();
     let plain = b"\x00\x80\x00\x00\x05\x80\x00\x00\x05\x80\x00\x00\x05".as_slice();
@@ -51,13 +54,12 @@ fn equal_numbers_go_as_one_run(rt: HostRuntime) -> Result<(), Fail> {
 }
 
 // Two texts in turns, each twice.
-fn in_turns(alloc: Global, first: &[u8], second: &[u8]) -> Result<[Value; 4], AllocError> {
-    Ok([
-        text(alloc, first)?,
-        text(alloc, second)?,
-        text(alloc, first)?,
-        text(alloc, second)?,
-    ])
+fn in_turns(alloc: Global, first: &[u8], second: &[u8]) -> Result<Vec<Value>, AllocError> {
+    let mut cells = Vec::new(alloc);
+    for word in [first, second, first, second] {
+        cells.push(text(alloc, word)?)?;
+    }
+    Ok(cells)
 }
 
 #[test]

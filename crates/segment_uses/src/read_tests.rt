@@ -1,22 +1,26 @@
-use crate::fixtures::{column, reader_of, table};
-use crate::one_row::{self, BODY, DIGEST};
+ghost use Rattle.segment_read.specs.Reads.{KnowsFooter};
+
+use crate::fixtures::{attached, column, reader_of, table};
+use crate::one_row;
 use column_page::Span;
 use dev_memory::MemReader;
 use dev_traits::{Damaged, Digest, Part, ReadFault, SealedReader, Shown};
 use pk_values::{Kind, Octets, Row, Schema, Value};
-use segment_read::{attach, block, row_at, rows_of};
+use segment_read::{Segment, attach, block, row_at, rows_of};
 use std::alloc::Global;
 use std::process::Abort;
 use std::test::Fail;
 
 // The pages of the row (2, a, 1), which is another than the footer tells of.
-const OTHER_BODY: [u8; 31] =
-    *b"\x00\x00\x00\x05\x00\x80\x00\x00\x02\x00\x00\x00\x05\x00\x01\x00\x01\x61\x00\x00\
-    \x00\x09\x00\x80\x00\x00\x00\x00\x00\x00\x01";
+fn other_body() -> &'static [u8] {
+    b"\x00\x00\x00\x05\x00\x80\x00\x00\x02\x00\x00\x00\x05\x00\x01\x00\x01\x61\x00\x00\
+    \x00\x09\x00\x80\x00\x00\x00\x00\x00\x00\x01"
+}
 
-const OTHER_DIGEST: [u8; 32] =
+fn other_digest() -> [u8; 32] {
     *b"\x61\x13\xf1\xb1\xd4\x04\x07\x52\xbd\x37\xe2\x61\xa9\x7a\x78\x4a\xb1\x9f\x08\x6e\
-    \x2c\xb7\x06\xcc\xbc\xca\x26\x9b\xba\xce\x98\x4d";
+    \x2c\xb7\x06\xcc\xbc\xca\x26\x9b\xba\xce\x98\x4d"
+}
 
 // A reader of the file of one row, which fails at the listed reads.
 fn one_row_reader(rt: &impl Abort, alloc: Global, fails: &[u64]) -> Result<MemReader, Fail> {
@@ -35,17 +39,23 @@ fn are_the_row(rows: &[Row]) -> bool {
 fn the_footer_of_a_segment_is_read(rt: HostRuntime) -> Result<(), Fail> {
     let alloc = rt.alloc();
     let schema = table(&rt, alloc)?;
-    let Ok(mut segment) = attach(alloc, &schema, 2, one_row_reader(&rt, alloc, &[])?) else {
-        assert!(rt; false);
-        return Ok(());
-    };
-    assert!(rt; segment.footer.rows() == 1 && segment.footer.columns() == 3);
-    assert!(rt; segment.footer.blocks() == 1 && segment.footer.span(0, 1).is_none());
+    let segment = attached(&rt, alloc, &schema, one_row_reader(&rt, alloc, &[])?);
+    let footer = &segment.footer;
+    assert!(rt; footer.rows() == 1 && footer.columns() == 3 && footer.blocks() == 1);
     let one = Span {
         least: 1,
         greatest: 1,
     };
-    assert!(rt; segment.footer.span(0, 0) == Some(one) && !segment.footer.nulls(0, 1));
+    assert!(rt; footer.span(0, 0) == Some(one) && footer.span(0, 1).is_none());
+    assert!(rt; !footer.nulls(0, 1) && footer.nulls(0, 3));
+    Ok(())
+}
+
+#[test]
+fn a_copy_reads_the_same_file(rt: HostRuntime) -> Result<(), Fail> {
+    let alloc = rt.alloc();
+    let schema = table(&rt, alloc)?;
+    let mut segment = attached(&rt, alloc, &schema, one_row_reader(&rt, alloc, &[])?);
     let copy = segment.copy(alloc)?;
     assert!(rt; copy.footer.rows() == 1 && copy.reader.length() == 202);
     assert!(rt; copy.number == 2 && copy.faults() == 0);
@@ -56,11 +66,8 @@ fn the_footer_of_a_segment_is_read(rt: HostRuntime) -> Result<(), Fail> {
 fn the_row_of_a_segment_is_read(rt: HostRuntime) -> Result<(), Fail> {
     let alloc = rt.alloc();
     let schema = table(&rt, alloc)?;
-    let Ok(mut segment) = attach(alloc, &schema, 2, one_row_reader(&rt, alloc, &[])?) else {
-        assert!(rt; false);
-        return Ok(());
-    };
-    assert!(rt; segment.footer.rows() == 1 && segment.footer.blocks() == 1);
+    let mut segment = attached(&rt, alloc, &schema, one_row_reader(&rt, alloc, &[])?);
+    assert!(rt; segment.footer.rows() == 1);
     let rows = block(alloc, &schema, &mut segment, 0).expect(&rt, "a block");
     assert!(rt; are_the_row(&rows));
     let row = row_at(alloc, &schema, &mut segment, 0).expect(&rt, "a row");
@@ -68,6 +75,29 @@ fn the_row_of_a_segment_is_read(rt: HostRuntime) -> Result<(), Fail> {
     let rows = rows_of(alloc, &schema, &mut segment).expect(&rt, "all rows");
     assert!(rt; are_the_row(&rows));
     Ok(())
+}
+
+fn damage_of(fault: ReadFault) -> Option<Damaged> {
+    match fault {
+        ReadFault::Damaged(damaged) => Some(damaged),
+        ReadFault::StoreFault | ReadFault::Memory => None,
+    }
+}
+
+// The damage that reading the first block tells.
+fn damage_of_block<R: SealedReader>(
+    rt: &impl Abort,
+    alloc: Global,
+    schema: &Schema,
+    mut segment: Segment<R>,
+) -> Option<Damaged>
+    requires { KnowsFooter schema.now (R.view segment.reader) segment.footer }
+{
+    assert!(rt; segment.footer.blocks() > 0);
+    match block(alloc, schema, &mut segment, 0) {
+        Ok(_) => None,
+        Err(fault) => damage_of(fault),
+    }
 }
 
 // The first damage that attaching the file and reading its block tell.
@@ -79,15 +109,8 @@ fn damage_in(
 ) -> Result<Option<Damaged>, Fail> {
     let reader = reader_of(rt, alloc, Octets::from_slice(alloc, file)?, &[])?;
     match attach(alloc, schema, 2, reader) {
-        Ok(segment) => {
-            let mut segment = segment;
-            match block(alloc, schema, &mut segment, 0) {
-                Err(ReadFault::Damaged(damaged)) => Ok(Some(damaged)),
-                _ => Ok(None),
-            }
-        }
-        Err((_, ReadFault::Damaged(damaged))) => Ok(Some(damaged)),
-        Err(_) => Ok(None),
+        Ok(segment) => Ok(damage_of_block(rt, alloc, schema, segment)),
+        Err((_, fault)) => Ok(damage_of(fault)),
     }
 }
 
@@ -97,12 +120,11 @@ fn each_proper_prefix_is_damaged_at_its_footer(rt: HostRuntime) -> Result<(), Fa
     let schema = table(&rt, alloc)?;
     let file = one_row::file(alloc)?;
     for len in 0..file.len() {
-        let reader = reader_of(&rt, alloc, Octets::from_slice(alloc, &file[..len])?, &[])?;
-        let Err((_, ReadFault::Damaged(damaged))) = attach(alloc, &schema, 2, reader) else {
-            assert!(rt; false);
-            return Ok(());
-        };
-        assert!(rt; damaged.file == 2 && damaged.part == Part::Footer);
+        let damaged = damage_in(&rt, alloc, &schema, &file[..len])?.expect(&rt, "damage");
+        assert!(rt;
+            damaged.file == 2 && damaged.part == Part::Footer,
+            "of {len} bytes"
+        );
     }
     Ok(())
 }
@@ -132,15 +154,14 @@ fn a_changed_byte_is_told_with_its_part(rt: HostRuntime) -> Result<(), Fail> {
 fn digests_are_told_where_they_differ_and_else_the_form(rt: HostRuntime) -> Result<(), Fail> {
     let alloc = rt.alloc();
     let schema = table(&rt, alloc)?;
-    let kept = Digest { bytes: DIGEST };
-    let found = Digest {
-        bytes: OTHER_DIGEST,
+    let kept = Digest {
+        bytes: one_row::digest(),
     };
-    for (digest, shown) in [
-        (DIGEST, Shown::Digests { kept, found }),
-        (OTHER_DIGEST, Shown::Form),
-    ] {
-        let file = one_row::file_of(alloc, &OTHER_BODY, &digest)?;
+    let found = Digest {
+        bytes: other_digest(),
+    };
+    for (digest, shown) in [(kept, Shown::Digests { kept, found }), (found, Shown::Form)] {
+        let file = one_row::file_of(alloc, other_body(), &digest.bytes)?;
         let damaged = damage_in(&rt, alloc, &schema, &file)?.expect(&rt, "damage");
         assert!(rt; damaged.part == Part::Block(0) && damaged.shown == shown);
     }
@@ -158,17 +179,24 @@ fn a_footer_of_another_table_is_damaged_in_its_form(rt: HostRuntime) -> Result<(
     Ok(())
 }
 
+// How many faults the reader counted, where attaching its file tells one.
+fn faults_of<R: SealedReader>(alloc: Global, schema: &Schema, reader: R) -> Option<u64> {
+    match attach(alloc, schema, 2, reader) {
+        Err((reader, ReadFault::StoreFault)) => Some(reader.faults()),
+        _ => None,
+    }
+}
+
 #[test]
 fn a_failed_read_of_the_footer_is_told(rt: HostRuntime) -> Result<(), Fail> {
     let alloc = rt.alloc();
     let schema = table(&rt, alloc)?;
     for fails in [1, 2] {
         let reader = one_row_reader(&rt, alloc, &[fails])?;
-        let Err((reader, ReadFault::StoreFault)) = attach(alloc, &schema, 2, reader) else {
-            assert!(rt; false);
-            return Ok(());
-        };
-        assert!(rt; reader.faults() == 1);
+        assert!(rt;
+            faults_of(alloc, &schema, reader) == Some(1),
+            "at read {fails}"
+        );
     }
     Ok(())
 }
@@ -177,11 +205,8 @@ fn a_failed_read_of_the_footer_is_told(rt: HostRuntime) -> Result<(), Fail> {
 fn a_failed_read_is_told_and_the_next_one_goes_on(rt: HostRuntime) -> Result<(), Fail> {
     let alloc = rt.alloc();
     let schema = table(&rt, alloc)?;
-    let Ok(mut segment) = attach(alloc, &schema, 2, one_row_reader(&rt, alloc, &[3, 5])?) else {
-        assert!(rt; false);
-        return Ok(());
-    };
-    assert!(rt; segment.footer.rows() == 1 && segment.footer.blocks() == 1);
+    let mut segment = attached(&rt, alloc, &schema, one_row_reader(&rt, alloc, &[3, 5])?);
+    assert!(rt; segment.footer.rows() == 1);
     let row = row_at(alloc, &schema, &mut segment, 0);
     assert!(rt; matches!(row, Err(ReadFault::StoreFault)) && segment.faults() == 1);
     assert!(rt; block(alloc, &schema, &mut segment, 0).is_ok());

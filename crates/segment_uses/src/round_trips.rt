@@ -1,9 +1,8 @@
-ghost use Rattle.std.specs.Prelude.{◌≡◌, ◌≢◌, ◌⊎◌, OnErr, ◌≤◌, ◌-◌, ◌^◌, min, ℕ, List, Some, None, IfOk, OnOk, IsErrOf};
-ghost use Rattle.dev_traits.specs.Causes.{HasMakeCause, HasReadCause};
+ghost use Rattle.std.specs.Prelude.{◌≡◌, ◌≢◌, ◌⊎◌, OnErr, ℕ, List, Some, None, IfOk, OnOk, IsErrOf};
+ghost use Rattle.dev_traits.specs.Causes.{HasMakeCause, HasOutsideCause, HasReadCause};
 ghost use Rattle.dev_traits.specs.Image.{file, with_file, Same};
 ghost use Rattle.dev_traits.specs.View.{Calm, EachImage, Leaves, Spends, Told};
 ghost use Rattle.dev_traits.specs.Reader.{IsNew};
-ghost use Rattle.segment_uses.specs.Causes.{HasOutsideCause};
 ghost use Rattle.dev_traits.specs.declared.faults.Damaged.{Damaged};
 ghost use Rattle.dev_traits.specs.declared.faults.OutsideFault.TheVariants as outside;
 ghost use Rattle.dev_traits.specs.declared.faults.ReadFault.TheVariants as read;
@@ -28,8 +27,6 @@ fn sealed_rows<S: Store>(
     ensures calm { Calm (S.view store.old) (S.view store.new) }
     ensures cause { HasMakeCause (S.view store.old).faults (S.view store.new).faults result }
 {
-    // A count of faults fits a u64.
-    let _faults = store.faults();
     let mut maker = store.maker()?;
     let made = write_segment(alloc, &mut maker, schema, rows);
     store.give_back(maker);
@@ -119,8 +116,6 @@ pub fn write_and_read<S: Store>(
     ensures crash { Leaves Same (S.view store.old) (S.view store.new) }
     ensures cause { HasOutsideCause (S.view store.old).faults (S.view store.new).faults result }
 {
-    // A count of faults fits a u64.
-    let _faults = store.faults();
     let reader = adopted_rows(alloc, store, schema, number, rows)?;
     let (reader, found) = read_rows(alloc, schema, number, reader, rows);
     store.give_back_reader(reader);

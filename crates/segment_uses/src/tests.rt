@@ -1,38 +1,20 @@
 ghost use Rattle.std.specs.Prelude.{◌≡◌, None, IsTrue};
 ghost use Rattle.dev_traits.specs.Image.{file};
 ghost use Rattle.dev_traits.specs.View.{Told};
+ghost use Rattle.segment_read.specs.Reads.{KnowsFooter};
 
-use crate::fixtures::{reader_of, row, table, text};
+use crate::fixtures::{attached, reader_of, rows_with_keys_below, table};
 use crate::keeper::Keeper;
 use crate::write_and_read;
 use dev_memory::{Faults, MemStore};
-use dev_traits::{DevError, OutsideFault, Store};
-use pk_values::{Octets, Row, Schema, Value};
+use dev_traits::{DevError, OutsideFault, SealedReader, Store};
+use pk_values::{Octets, Row, Schema};
 use segment_form::are_segment_rows;
-use segment_read::{attach, block, row_at, rows_of};
+use segment_read::{Segment, block, row_at, rows_of};
 use segment_write::write_segment;
-use std::alloc::{AllocError, Global};
+use std::alloc::Global;
 use std::process::Abort;
 use std::test::Fail;
-
-// Each fourth text is NULL, and the others have one to three bytes.
-fn text_of(alloc: Global, key: u32) -> Result<Value, AllocError> {
-    match key % 4 {
-        0 => Ok(Value::Null),
-        1 => text(alloc, b"a"),
-        2 => text(alloc, b"bc"),
-        _ => text(alloc, b"def"),
-    }
-}
-
-fn rows_with_keys_below(alloc: Global, count: u32) -> Result<Vec<Row>, AllocError> {
-    let mut rows = Vec::with_capacity(alloc, count as usize)?;
-    for key in 0..count {
-        let number = i128::from(key);
-        rows.push(row(alloc, number, text_of(alloc, key)?, -number)?)?;
-    }
-    Ok(rows)
-}
 
 fn are_same(rows: &[Row], found: &[Row]) -> bool {
     rows.len() == found.len()
@@ -47,6 +29,54 @@ fn file_of(rt: &impl Abort, alloc: Global, schema: &Schema, rows: &[Row]) -> Res
     Ok(Octets::from_vec(made.sealed))
 }
 
+fn reads_all<R: SealedReader>(
+    rt: &impl Abort,
+    alloc: Global,
+    schema: &Schema,
+    segment: &mut Segment<R>,
+    rows: &[Row],
+)
+    requires { KnowsFooter schema.now (R.view segment.old.reader) segment.old.footer }
+    ensures { KnowsFooter schema.now (R.view segment.new.reader) segment.new.footer }
+{
+    let found = rows_of(alloc, schema, segment).expect(rt, "all rows");
+    assert!(rt; are_same(rows, &found));
+}
+
+fn reads_the_last_row<R: SealedReader>(
+    rt: &impl Abort,
+    alloc: Global,
+    schema: &Schema,
+    segment: &mut Segment<R>,
+    rows: &[Row],
+)
+    requires { KnowsFooter schema.now (R.view segment.old.reader) segment.old.footer }
+    ensures { KnowsFooter schema.now (R.view segment.new.reader) segment.new.footer }
+{
+    let count = segment.footer.rows();
+    assert!(rt; count > 0);
+    let found = row_at(alloc, schema, segment, count - 1).expect(rt, "a row");
+    let last = rows.last().expect(rt, "a last row");
+    assert!(rt; last.cells.as_slice() == found.cells.as_slice());
+}
+
+fn reads_the_last_block<R: SealedReader>(
+    rt: &impl Abort,
+    alloc: Global,
+    schema: &Schema,
+    segment: &mut Segment<R>,
+    rows: &[Row],
+    len: usize,
+)
+    requires { KnowsFooter schema.now (R.view segment.old.reader) segment.old.footer }
+{
+    let blocks = segment.footer.blocks();
+    assert!(rt; blocks > 0);
+    let found = block(alloc, schema, segment, blocks - 1).expect(rt, "a block");
+    assert!(rt; found.len() == len && len <= rows.len());
+    assert!(rt; are_same(&rows[rows.len() - len..], &found));
+}
+
 #[test]
 fn rows_are_read_back_as_they_were_written(rt: HostRuntime) -> Result<(), Fail> {
     let alloc = rt.alloc();
@@ -54,21 +84,12 @@ fn rows_are_read_back_as_they_were_written(rt: HostRuntime) -> Result<(), Fail> 
     for (count, last_block) in [(1, 1), (1_025, 1), (65_536, 1_024)] {
         let rows = rows_with_keys_below(alloc, count)?;
         let reader = reader_of(&rt, alloc, file_of(&rt, alloc, &schema, &rows)?, &[])?;
-        let Ok(mut segment) = attach(alloc, &schema, 2, reader) else {
-            assert!(rt; false);
-            return Ok(());
-        };
+        let mut segment = attached(&rt, alloc, &schema, reader);
         assert!(rt; segment.footer.rows() == count);
-        let found = rows_of(alloc, &schema, &mut segment).expect(&rt, "all rows");
-        assert!(rt; are_same(&rows, &found));
-        let found = row_at(alloc, &schema, &mut segment, count - 1).expect(&rt, "a row");
-        let last = rows.last().expect(&rt, "a last row");
-        assert!(rt; last.cells.as_slice() == found.cells.as_slice());
-        let blocks = segment.footer.blocks();
-        assert!(rt; blocks == count.div_ceil(1_024));
-        let found = block(alloc, &schema, &mut segment, blocks - 1).expect(&rt, "a block");
-        assert!(rt; found.len() == last_block && last_block <= rows.len());
-        assert!(rt; are_same(&rows[rows.len() - last_block..], &found));
+        assert!(rt; segment.footer.blocks() == count.div_ceil(1_024));
+        reads_all(&rt, alloc, &schema, &mut segment, &rows);
+        reads_the_last_row(&rt, alloc, &schema, &mut segment, &rows);
+        reads_the_last_block(&rt, alloc, &schema, &mut segment, &rows, last_block);
     }
     Ok(())
 }

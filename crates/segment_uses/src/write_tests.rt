@@ -1,14 +1,15 @@
 ghost use Rattle.std.specs.Prelude.{◌<◌, ◌^◌, IfOk, length};
+ghost use Rattle.segment_form.specs.Segments.{AreSegmentRows};
 
-use crate::fixtures::{row, table, text};
+use crate::fixtures::{one_row, rows_with_keys_below, table};
 use crate::keeper::Keeper;
-use crate::one_row;
-use column_page::Span;
+use crate::one_row as bytes;
+use column_page::write_footer;
 use dev_traits::MakeFault;
-use pk_values::Row;
+use pk_values::{Row, Schema};
 use segment_form::are_segment_rows;
 use segment_write::{Made, write_segment};
-use std::alloc::{AllocError, Global};
+use std::alloc::Global;
 use std::process::Abort;
 use std::test::Fail;
 
@@ -25,28 +26,12 @@ fn written(rt: &impl Abort, alloc: Global, rows: &[Row]) -> Result<Made<Vec<u8>>
 #[test]
 fn one_row_has_its_bytes(rt: HostRuntime) -> Result<(), Fail> {
     let alloc = rt.alloc();
-    let made = written(&rt, alloc, &[row(alloc, 1, text(alloc, b"a")?, 1)?])?;
-    let want = one_row::file(alloc)?;
+    let made = written(&rt, alloc, &one_row(alloc)?)?;
+    let want = bytes::file(alloc)?;
     assert_eq!(rt; want.len(), 202);
     assert!(rt; made.sealed.as_slice() == want.as_slice());
-    let footer = &made.footer;
-    assert!(rt; footer.blocks() == 1);
-    let one = Span {
-        least: 1,
-        greatest: 1,
-    };
-    assert!(rt; footer.span(0, 0) == Some(one) && footer.span(0, 1).is_none());
-    assert!(rt; !footer.nulls(0, 1));
+    assert!(rt; write_footer(alloc, &made.footer)?.as_slice() == bytes::footer());
     Ok(())
-}
-
-fn rows_with_keys_below(alloc: Global, count: u32) -> Result<Vec<Row>, AllocError> {
-    let mut rows = Vec::with_capacity(alloc, count as usize)?;
-    for key in 0..count {
-        let key = i128::from(key);
-        rows.push(row(alloc, key, text(alloc, b"text")?, key)?)?;
-    }
-    Ok(rows)
 }
 
 #[test]
@@ -61,18 +46,33 @@ fn blocks_have_1024_rows(rt: HostRuntime) -> Result<(), Fail> {
     Ok(())
 }
 
+// Whether a maker that fails at one call tells that, and then makes a file of so many bytes.
+fn fails_once(
+    alloc: Global,
+    schema: &Schema,
+    rows: &[Row],
+    call: u64,
+    len: usize,
+) -> Result<bool, MakeFault>
+    requires { AreSegmentRows schema.now rows.now }
+{
+    let mut maker = Keeper::new(alloc, call);
+    let failed = write_segment(alloc, &mut maker, schema, rows);
+    let made = write_segment(alloc, &mut maker, schema, rows)?;
+    Ok(matches!(failed, Err(MakeFault::StoreFault)) && made.sealed.len() == len)
+}
+
 #[test]
 fn a_fault_of_the_maker_is_told(rt: HostRuntime) -> Result<(), Fail> {
     let alloc = rt.alloc();
     let schema = table(&rt, alloc)?;
-    let rows = [row(alloc, 1, text(alloc, b"a")?, 1)?];
+    let rows = one_row(alloc)?;
     assert!(rt; are_segment_rows(&schema, &rows));
     for call in 1..5 {
-        let mut maker = Keeper::new(alloc, call);
-        let made = write_segment(alloc, &mut maker, &schema, &rows);
-        assert!(rt; matches!(made, Err(MakeFault::StoreFault)));
-        let made = write_segment(alloc, &mut maker, &schema, &rows)?;
-        assert!(rt; made.sealed.len() == 202);
+        assert!(rt;
+            fails_once(alloc, &schema, &rows, call, 202)?,
+            "at call {call}"
+        );
     }
     Ok(())
 }

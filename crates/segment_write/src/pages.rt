@@ -1,11 +1,10 @@
 ghost use Rattle.std.specs.Prelude.{◌≡◌, ◌<◌, ◌≤◌, ◌^◌, ◌∷◌, [], ◌++◌, All, IsTrue, IfOk, OnOk, length};
 ghost use Rattle.pk_values.specs.Schemas.{fits_row, is_kind};
-ghost use Rattle.column_page.specs.Footers.{mark_of, u32_bytes};
+ghost use Rattle.column_page.specs.Footers.{mark_of};
 ghost use Rattle.column_page.specs.Page.{page_of, AllFit};
 ghost use Rattle.segment_form.specs.Segments.{block_body, marks_of, sized};
 
-use byteorder::{BigEndian, ByteOrder};
-use column_page::{ColumnMark, encode_page, mark_of};
+use column_page::{ColumnMark, encode_page, mark_of, put_u32};
 use pk_values::{Column, Items, Row, Schema, Value};
 use segment_form::cells_of;
 use std::alloc::{AllocError, Global};
@@ -15,16 +14,6 @@ use std::alloc::{AllocError, Global};
 pub struct Pages {
     pub bytes: Vec<u8>,
     pub marks: Items<ColumnMark>,
-}
-
-/// Appends a number in four bytes, the high one first.
-#[tactic(auto, unfolding(column_page::specs::Footers::u32_bytes))]
-pub fn put_u32(out: &mut Vec<u8>, number: u32) -> Result<(), AllocError>
-    ensures { OnOk result (out.new.items ≡ out.old.items ++ u32_bytes number) }
-{
-    let mut bytes = [0; 4];
-    BigEndian::write_u32(&mut bytes, number);
-    out.extend_from_slice(&bytes)
 }
 
 // Appends the length of a page and the page.

@@ -5,8 +5,7 @@ ghost use Rattle.segment_form.specs.Segments.{AreSegmentRows, block_marks, block
 ghost use Rattle.dev_traits.specs.Causes.{HasMakeCause};
 
 use crate::blocks::put_blocks;
-use crate::pages::put_u32;
-use column_page::{BlockMark, Footer, write_footer};
+use column_page::{BlockMark, Footer, put_u32, write_footer};
 use dev_traits::{FileMaker, MakeFault};
 use pk_values::{Items, Row, Schema};
 use std::alloc::{AllocError, Global};

@@ -1,14 +1,14 @@
-use Rattle.std.proofs.Common.{◌≡◌, ◌+◌, ◌-◌, ◌≤◌, ◌<◌, ◌^◌, ◌++◌, ℕ, List, sym, subst, ap, ◌∙◌, arith, length, drop, take, [], map, get_or, true, refl}
+use Rattle.std.proofs.Common.{◌≡◌, ◌+◌, ◌<◌, ◌^◌, ◌++◌, ℕ, List, sym, subst, ap, ◌∙◌, arith, length, drop, take, [], map, get_or, true, refl}
 use Rattle.std.specs.List.{AllPass}
-use Rattle.std.proofs.lemmas.List.{get_or-map, length-drop, length-map, map_push}
+use Rattle.std.proofs.lemmas.List.{get_or-map, length-map, map_push}
 use Rattle.std.proofs.lemmas.List.Elements.{All-push}
-use Rattle.std.proofs.lemmas.Slice.{between_to_end}
 use Rattle.pk_values.specs.declared.cells.Value.{Value}
 use Rattle.column_page.specs.CellBytes.{u16_bytes}
 use Rattle.column_page.specs.Page.{Cell, place, places}
 use Rattle.column_page.specs.Reading.{HavePlaced}
 use Rattle.column_page.proofs.PageFacts.{all_placed, next_place, place_more}
 use Rattle.column_page.proofs.ReadFacts.{u16_long, u16_step}
+use Rattle.column_page.proofs.Pieces.{ends_within, to_end}
 use Rattle.column_page.proofs.decode.read_places.Goals as goal
 
 -- what a read place is
@@ -45,12 +45,10 @@ loop-i-preserved c =
     let some = c.in-Some.ensures.some in
     let pushed = c.in_ok-push_value.ensures.pushed in
     let bytes = c.args.bytes.now in
-    let piece = between_to_end bytes c.loop-i.at (length bytes) (omega arith) in
-    let long : length (drop c.loop-i.at bytes) ≡ length bytes - c.loop-i.at = length-drop c.loop-i.at bytes in
-    let taken : 2 ≤ length (drop c.loop-i.at bytes) = subst (λ (t : List ℕ). 2 ≤ length t) piece some.1 in
+    let piece = to_end bytes c.loop-i.at in
     let value : c.in_ok-value.value ≡ get_or words c.in-Some.place c.index-words-place.result = c.in_ok-value.ensures.copied ∙ c.index-words-place.is in
     record {
-      within = omega arith;
+      within = ends_within bytes _ c.loop-i.at 2 inv.within piece some.1;
       pass = λ p h. subst (λ (vs : List Value). AllPass p vs) (sym pushed) (All-push (λ v. p v ≡ true) c.loop-i.values.items c.in_ok-value.value (inv.pass p h) (ap p value ∙ h c.in-Some.place c.index-words-place.result c.if-place-words.false));
       so_far = λ code cells are.
           let have = inv.so_far code cells are in
@@ -67,7 +65,7 @@ returns-clause-only c code cells are =
 pub returns-in_default-clause-none : goal.returns-in_default-clause-none
 returns-in_default-clause-none c is code cells are =
     let bytes = c.args.bytes.now in
-    let piece = between_to_end bytes c.loop-i.at (length bytes) (omega arith) in
+    let piece = to_end bytes c.loop-i.at in
     let next = next_place (map code c.args.words.now) (map code c.loop-i.values.items) c.loop-i.i c.loop-i.at c.args.count bytes _ cells are c.loop-i-test.true (c.loop-i.invariant.so_far code cells are) piece in
     u16_long (place (get_or cells c.loop-i.i []) (map code c.args.words.now)) _ _ c.in_default.ensures.none next.stands
 
@@ -76,7 +74,7 @@ returns-then-place-words-clause-none c is code cells are =
     let words = c.args.words.now in
     let some = c.in-Some.ensures.some in
     let bytes = c.args.bytes.now in
-    let piece = between_to_end bytes c.loop-i.at (length bytes) (omega arith) in
+    let piece = to_end bytes c.loop-i.at in
     let next = next_place (map code words) (map code c.loop-i.values.items) c.loop-i.i c.loop-i.at c.args.count bytes _ cells are c.loop-i-test.true (c.loop-i.invariant.so_far code cells are) piece in
     let here = found_at code words c.in-Some.place (get_or cells c.loop-i.i []) _ (places (map code words) (drop (c.loop-i.i + 1) cells)) c.requires some.0 some.2 next.there next.is next.stands in
     let below : c.in-Some.place < length words = here.below in

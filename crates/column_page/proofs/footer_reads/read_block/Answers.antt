@@ -1,12 +1,12 @@
 use Rattle.std.proofs.Common.{◌≡◌, ◌+◌, ℕ, sym, ap, ◌∙◌, arith, length, drop}
 use Rattle.std.proofs.lemmas.List.{drop-drop}
 use Rattle.std.proofs.lemmas.Result.{err_from_is_err_and}
-use Rattle.std.proofs.lemmas.Slice.{between_to_end}
 use Rattle.std.specs.List.{between}
 use Rattle.column_page.specs.Footers.{mark_bytes}
 use Rattle.column_page.specs.FooterReading.{MarkFits, SequenceThen}
 use Rattle.column_page.proofs.FooterFacts.{after_length, after_place, block_is, block_open, length_told, place_told, rows_told}
 use Rattle.column_page.proofs.SequenceFacts.{u32_long, u64_long}
+use Rattle.column_page.proofs.Pieces.{to_end}
 use Rattle.column_page.proofs.footer_reads.read_block.Goals as goal
 
 pub returns-clause-only : goal.returns-clause-only
@@ -16,9 +16,9 @@ returns-clause-only c b rest fit e =
     let place = c.in_ok-place.ensures.some in
     let len = c.in_ok-length.ensures.some in
     let rows = c.in_ok-rows.ensures.some in
-    let p8 = between_to_end bytes 8 n (omega arith) in
-    let p12 = between_to_end bytes 12 n (omega arith) in
-    let p16 = between_to_end bytes 16 n (omega arith) in
+    let p8 = to_end bytes 8 in
+    let p12 = to_end bytes 12 in
+    let p16 = to_end bytes 16 in
     let one = place_told c.args.columns c.in_ok-place.place bytes (between 8 n bytes) b rest fit e place.0 place.2 p8 in
     let two = length_told c.args.columns c.in_ok-length.length bytes (between 8 n bytes) (between 12 n bytes) b rest fit one.1 len.0 len.2 p8 p12 in
     let three = rows_told c.args.columns c.in_ok-rows.rows bytes (between 12 n bytes) (between 16 n bytes) b rest fit two.1 rows.0 rows.2 p12 p16 in
@@ -41,7 +41,7 @@ returns-in_err-length-clause-none c =
     let bytes = c.args.bytes.now in
     let n = length bytes in
     let place = c.in_ok-place.ensures.some in
-    let p8 = between_to_end bytes 8 n (omega arith) in
+    let p8 = to_end bytes 8 in
     let one = place_told c.args.columns c.in_ok-place.place bytes (between 8 n bytes) b rest fit e place.0 place.2 p8 in
     u32_long b.length (between 8 n bytes) (after_length b rest) c.in_err-length.ensures.none (sym one.1))
 
@@ -53,8 +53,8 @@ returns-in_err-rows-clause-none c =
     let n = length bytes in
     let place = c.in_ok-place.ensures.some in
     let len = c.in_ok-length.ensures.some in
-    let p8 = between_to_end bytes 8 n (omega arith) in
-    let p12 = between_to_end bytes 12 n (omega arith) in
+    let p8 = to_end bytes 8 in
+    let p12 = to_end bytes 12 in
     let one = place_told c.args.columns c.in_ok-place.place bytes (between 8 n bytes) b rest fit e place.0 place.2 p8 in
     let two = length_told c.args.columns c.in_ok-length.length bytes (between 8 n bytes) (between 12 n bytes) b rest fit one.1 len.0 len.2 p8 p12 in
     u32_long b.rows (between 12 n bytes) _ c.in_err-rows.ensures.none (sym two.1))
@@ -68,9 +68,9 @@ returns-in_err-read-clause-none c =
     let place = c.in_ok-place.ensures.some in
     let len = c.in_ok-length.ensures.some in
     let rows = c.in_ok-rows.ensures.some in
-    let p8 = between_to_end bytes 8 n (omega arith) in
-    let p12 = between_to_end bytes 12 n (omega arith) in
-    let p16 = between_to_end bytes 16 n (omega arith) in
+    let p8 = to_end bytes 8 in
+    let p12 = to_end bytes 12 in
+    let p16 = to_end bytes 16 in
     let one = place_told c.args.columns c.in_ok-place.place bytes (between 8 n bytes) b rest fit e place.0 place.2 p8 in
     let two = length_told c.args.columns c.in_ok-length.length bytes (between 8 n bytes) (between 12 n bytes) b rest fit one.1 len.0 len.2 p8 p12 in
     let three = rows_told c.args.columns c.in_ok-rows.rows bytes (between 12 n bytes) (between 16 n bytes) b rest fit two.1 rows.0 rows.2 p12 p16 in

@@ -1,13 +1,13 @@
-use Rattle.std.proofs.Common.{◌≡◌, ◌+◌, ◌-◌, ◌≤◌, ℕ, List, sym, subst, ap, ◌∙◌, arith, length, drop, []}
+use Rattle.std.proofs.Common.{◌+◌, ℕ, List, sym, subst, ap, ◌∙◌, length, []}
 use Rattle.std.specs.Prelude.{All}
-use Rattle.std.proofs.lemmas.List.{length-drop, length_push}
+use Rattle.std.proofs.lemmas.List.{length_push}
 use Rattle.std.proofs.lemmas.List.Elements.{All-push}
 use Rattle.std.proofs.lemmas.Result.{err_from_is_err_and}
-use Rattle.std.proofs.lemmas.Slice.{between_to_end}
 use Rattle.column_page.specs.declared.footers.BlockMark.{BlockMark}
 use Rattle.column_page.specs.Footers.{block_bytes}
 use Rattle.column_page.specs.FooterReading.{BlockFits, HaveElements}
 use Rattle.column_page.proofs.SequenceFacts.{element_more, next_element}
+use Rattle.column_page.proofs.Pieces.{ends_within, to_end}
 use Rattle.column_page.proofs.footer_reads.read_blocks.Goals as goal
 
 pub loop-i-preserved : goal.loop-i-preserved
@@ -17,13 +17,11 @@ loop-i-preserved c =
     let len = c.in_ok-read.read.len in
     let pushed = c.in_ok-push_block.ensures.pushed in
     let bytes = c.args.bytes.now in
-    let piece = between_to_end bytes c.loop-i.at (length bytes) (omega arith) in
-    let long : length (drop c.loop-i.at bytes) ≡ length bytes - c.loop-i.at = length-drop c.loop-i.at bytes in
-    let taken : len ≤ length (drop c.loop-i.at bytes) = subst (λ (t : List ℕ). len ≤ length t) piece read.within in
+    let piece = to_end bytes c.loop-i.at in
     record {
       fit = subst (λ (vs : List BlockMark). All (BlockFits c.args.columns) vs) (sym pushed) (All-push (BlockFits c.args.columns) c.loop-i.blocks.items c.in_ok-read.read.block inv.fit read.fit);
       number = ap length pushed ∙ length_push c.loop-i.blocks.items c.in_ok-read.read.block ∙ ap (λ (n : ℕ). n + 1) inv.number;
-      within = omega arith;
+      within = ends_within bytes _ c.loop-i.at len inv.within piece read.within;
       so_far = λ blocks rest then. subst (λ (vs : List BlockMark). HaveElements block_bytes vs (c.loop-i.i + 1) (c.loop-i.at + len) bytes blocks rest) (sym pushed)
           (let have = inv.so_far blocks rest then in
           let next = next_element (BlockFits c.args.columns) block_bytes c.args.count c.loop-i.i c.loop-i.at c.loop-i.blocks.items bytes _ blocks rest c.in_ok-read.read.block then c.loop-i-test.true have piece in
@@ -35,6 +33,6 @@ pub returns-in_err-read-clause-none : goal.returns-in_err-read-clause-none
 returns-in_err-read-clause-none c =
     let p = err_from_is_err_and c.from_residual.result c.from_residual.ensures.1 in
     rw (p.1, p.2) (λ is blocks rest then.
-    let piece = between_to_end c.args.bytes.now c.loop-i.at (length c.args.bytes.now) (omega arith) in
+    let piece = to_end c.args.bytes.now c.loop-i.at in
     let next = next_element (BlockFits c.args.columns) block_bytes c.args.count c.loop-i.i c.loop-i.at c.loop-i.blocks.items c.args.bytes.now _ blocks rest (record { place = 0; length = 0; rows = 0; marks = [] }) then c.loop-i-test.true (c.loop-i.invariant.so_far blocks rest then) piece in
     c.in_err-read.ensures.none is _ _ next.fit next.stands)

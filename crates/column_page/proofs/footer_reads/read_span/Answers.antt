@@ -1,14 +1,14 @@
 use mir.Val.{SFits, of_z, to_z}
 use mir.Syntax.{w128}
 use Rattle.std.proofs.lemmas.Int.{to_z-of_z}
-use Rattle.std.proofs.Common.{rules, ◌≡◌, ◌++◌, sym, ap, ◌∙◌, arith, length, drop}
+use Rattle.std.proofs.Common.{rules, ◌≡◌, ◌++◌, sym, ap, ◌∙◌, drop}
 use Rattle.std.specs.Prelude.{ℤ}
 use Rattle.std.proofs.lemmas.List.{drop-drop}
 use Rattle.std.proofs.lemmas.Result.{err_from_is_err_and}
-use Rattle.std.proofs.lemmas.Slice.{between_to_end}
 use Rattle.column_page.specs.Footers.{wide_bytes}
 use Rattle.column_page.specs.declared.footers.Span.{Span}
 use Rattle.column_page.proofs.SequenceFacts.{wide_long, wide_step}
+use Rattle.column_page.proofs.Pieces.{to_end}
 use Rattle.column_page.proofs.footer_reads.read_span.Goals as goal
 
 span_is : (a b : ℤ) (t : Span) → a ≡ t.least → b ≡ t.greatest → ◌≡◌ {A = Span} (record { least = a; greatest = b }) t
@@ -22,7 +22,7 @@ returns-clause-only c t rest fit e =
     let least = c.in_ok-least.ensures.some in
     let greatest = c.in_ok-greatest.ensures.some in
     let one = wide_step c.in_ok-least.least t.least bytes (wide_bytes t.greatest ++ rest) least.0 fit.least least.2 e in
-    let piece = between_to_end bytes 16 (length bytes) (omega arith) in
+    let piece = to_end bytes 16 in
     let two = wide_step c.in_ok-greatest.greatest t.greatest _ rest greatest.0 fit.greatest greatest.2 (sym one.1 ∙ sym piece) in
     let least_fits : SFits w128 c.in_ok-least.least = search rules in
     let greatest_fits : SFits w128 c.in_ok-greatest.greatest = search rules in
@@ -42,5 +42,5 @@ returns-in_err-greatest-clause-none c =
     let bytes = c.args.bytes.now in
     let least = c.in_ok-least.ensures.some in
     let one = wide_step c.in_ok-least.least t.least bytes (wide_bytes t.greatest ++ rest) least.0 fit.least least.2 e in
-    let piece = between_to_end bytes 16 (length bytes) (omega arith) in
+    let piece = to_end bytes 16 in
     wide_long t.greatest _ rest c.in_err-greatest.ensures.none (sym one.1 ∙ sym piece))

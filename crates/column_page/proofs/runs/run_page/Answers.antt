@@ -1,9 +1,9 @@
 use Rattle.std.proofs.Common.{◌≡◌, ◌+◌, ◌<◌, ◌≤◌, ◌∷◌, ◌++◌, List, ℕ, sym, ap, ◌∙◌, arith, length, drop}
 use Rattle.std.specs.List.{flat_map}
 use Rattle.std.proofs.lemmas.List.{append_assoc}
-use Rattle.std.proofs.lemmas.Slice.{between_to_end}
 use Rattle.column_page.specs.Page.{Cell, run_bytes, runs}
 use Rattle.column_page.proofs.RunFacts.{RunAt, run_at}
+use Rattle.column_page.proofs.Pieces.{to_end}
 use Rattle.column_page.proofs.runs.run_page.Goals as goal
 
 abbrev Run : goal.In_ok-put_run → Type 0
@@ -13,7 +13,7 @@ run : (c : goal.In_ok-put_run) → Run c
 run c =
     let e = c.run_len-len.ensures in
     run_at c.args.cells.now _ c.loop-start.start c.run_len-len.result c.as_slice-first.result.now c.index-cells-start.result c.loop-start-test.true (c.as_slice-first.ensures ∙ c.index-cells-start.is)
-    (between_to_end c.args.cells.now c.loop-start.start (length c.args.cells.now) (omega arith)) e.within e.equal e.longest
+    (to_end c.args.cells.now c.loop-start.start) e.within e.equal e.longest
 
 pub loop-start-smaller : goal.loop-start-smaller
 loop-start-smaller c = let r = run c in let some : 0 < c.run_len-len.result = r.some in let within : c.loop-start.start + c.run_len-len.result ≤ length c.args.cells.now = r.within in omega arith

@@ -1,11 +1,11 @@
-use Rattle.std.proofs.Common.{◌≡◌, ◌-◌, ◌≤◌, All, IsTrue, ℕ, List, [], refl, sym, subst, ap, ◌∙◌, arith, length, drop}
-use Rattle.std.proofs.lemmas.List.{length-drop, length-replicate}
+use Rattle.std.proofs.Common.{All, IsTrue, List, [], refl, sym, subst, ap, ◌∙◌, arith, length}
+use Rattle.std.proofs.lemmas.List.{length-replicate}
 use Rattle.std.proofs.lemmas.List.Elements.{All-replicate}
 use Rattle.std.proofs.lemmas.Result.{err_from_is_err_and}
-use Rattle.std.proofs.lemmas.Slice.{between_to_end}
 use Rattle.pk_values.specs.Fits.{fits_all}
 use Rattle.pk_values.specs.declared.cells.Value.{Value}
 use Rattle.column_page.specs.declared.footers.ColumnMark.{ColumnMark}
+use Rattle.column_page.proofs.Pieces.{ends_within, to_end}
 use Rattle.segment_read.specs.Columns.{HaveColumns}
 use Rattle.segment_read.proofs.ReadingRows.{all_columns, columns_none, more_columns, next_column, one_more}
 use Rattle.segment_read.proofs.rows.read_columns.Goals as goal
@@ -32,7 +32,7 @@ returns-in_err-read-clause-none c =
     let p = err_from_is_err_and c.from_residual-in_err-read.result c.from_residual-in_err-read.ensures.1 in
     rw (p.1, p.2) (λ is rows are.
     let body = c.args.body.now in
-    let piece = between_to_end body c.loop-i.at (length body) (omega arith) in
+    let piece = to_end body c.loop-i.at in
     let next = next_column c.args.columns.now c.args.count c.args.marks.now body _ c.loop-i.rows.items c.loop-i.i c.loop-i.at rows c.index-columns-i.result _
     are (c.loop-i.invariant.so_far rows are) c.requires.short c.requires.marks c.loop-i-test.true piece c.index-columns-i.is in
     c.in_err-read.ensures.none is _ _ next.are next.short next.marked next.stands)
@@ -45,15 +45,13 @@ loop-i-preserved c =
     let read = c.in_ok-read.ensures in
     let len = c.in_ok-read.read.len in
     let cells = c.in_ok-read.read.cells.items in
-    let piece = between_to_end body at (length body) (omega arith) in
-    let long : length (drop at body) ≡ length body - at = length-drop at body in
-    let taken : len ≤ length (drop at body) = subst (λ (t : List ℕ). len ≤ length t) piece read.within in
+    let piece = to_end body at in
     let more = one_more c.args.columns.now c.args.count c.args.marks.now body _ c.loop-i.rows.items c.add_column.new.rows.items cells c.loop-i.i at len c.index-columns-i.result _
     inv.fit inv.number inv.written inv.marked c.requires.marks c.loop-i-test.true piece read.cells read.marked read.front c.in_ok-add_column.ensures.added c.index-columns-i.is in
     record {
       fit = more.fit;
       number = more.number;
-      within = omega arith;
+      within = ends_within body _ at len inv.within piece read.within;
       written = more.written;
       marked = more.marked;
       so_far = λ rows are.

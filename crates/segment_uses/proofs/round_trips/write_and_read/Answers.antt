@@ -1,4 +1,4 @@
-use Rattle.std.proofs.Common.{◌≡◌, subst, sym, Some, arith}
+use Rattle.std.proofs.Common.{◌≡◌, subst, sym, Some}
 use Rattle.std.proofs.lemmas.Result.{err_from_is_err_and}
 use Rattle.dev_traits.proofs.Moments.{leaves_still}
 use Rattle.dev_traits.specs.Image.{Image, file, Same}
@@ -25,11 +25,11 @@ returns-in_err-found-clause-cause g c =
     let before : (g.S.Store.view c.adopted_rows.new.store).faults ≡ (g.S.Store.view c.args.store.now).faults = c.in_ok-reader.ensures.cause.well (λ e. cc) in
     rw (p.1, p.2) (read_failed c.read_rows-reader.result.1 c.in_err-found.field-0.0 (g.S.Reader.SealedReader.view c.in_ok-reader.reader).faults (g.S.Reader.SealedReader.view c.read_rows-reader.result.0).faults
     (g.S.Store.view c.args.store.now).faults (g.S.Store.view c.give_back_reader.new.self).faults c.in_err-found.was
-    (record { is_new = c.in_ok-reader.ensures.unread.faults; fits = omega arith; cause = c.read_rows-reader.ensures.cause; counts = rw (sym before) c.give_back_reader.ensures.counts }))
+    (record { is_new = c.in_ok-reader.ensures.unread.faults; cause = c.read_rows-reader.ensures.cause; counts = rw (sym before) c.give_back_reader.ensures.counts }))
 
 pub returns-clause-cause : goal.returns-clause-cause
 returns-clause-cause g c =
     let before : (g.S.Store.view c.adopted_rows.new.store).faults ≡ (g.S.Store.view c.args.store.now).faults = c.in_ok-reader.ensures.cause.well (λ e. cc) in
     read_well c.read_rows-reader.result.1 c.in_ok-found.field-0 c.in_ok-found.field-0 (g.S.Reader.SealedReader.view c.in_ok-reader.reader).faults (g.S.Reader.SealedReader.view c.read_rows-reader.result.0).faults
     (g.S.Store.view c.args.store.now).faults (g.S.Store.view c.give_back_reader.new.self).faults c.in_ok-found.was
-    (record { is_new = c.in_ok-reader.ensures.unread.faults; fits = omega arith; cause = c.read_rows-reader.ensures.cause; counts = rw (sym before) c.give_back_reader.ensures.counts })
+    (record { is_new = c.in_ok-reader.ensures.unread.faults; cause = c.read_rows-reader.ensures.cause; counts = rw (sym before) c.give_back_reader.ensures.counts })
