@@ -1,7 +1,7 @@
 use thiserror::Error;
 
 /// Why a cell could not be read.
-#[derive(Clone, Copy, Debug, Drop, PartialEq, Eq, Error)]
+#[derive(Debug, Drop, Error)]
 pub enum CellFault {
     /// The bytes are no value of the kind.
     #[error("the bytes are no value of the column's type")]

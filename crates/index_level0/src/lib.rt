@@ -6,6 +6,3 @@ mod place;
 
 pub use key_bytes::KeyBytes;
 pub use place::Place;
-
-#[cfg(test)]
-mod tests;

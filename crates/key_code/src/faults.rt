@@ -1,7 +1,7 @@
 use thiserror::Error;
 
 /// Why a key has no code.
-#[derive(Clone, Copy, Debug, Drop, PartialEq, Eq, Error)]
+#[derive(Debug, Drop, Error)]
 pub enum KeyFault {
     /// The code would have so many bytes, above 128.
     #[error("the key takes {0} bytes, above 128")]
@@ -12,7 +12,7 @@ pub enum KeyFault {
 }
 
 /// Why bytes could not be read as a key.
-#[derive(Clone, Copy, Debug, Drop, PartialEq, Eq, Error)]
+#[derive(Debug, Drop, Error)]
 pub enum DecodeFault {
     /// The bytes are the code of no key of the table.
     #[error("the bytes are no key of the table")]

@@ -12,7 +12,7 @@ use thiserror::Error;
 
 /// What of a JSON value isn't of the form of a column. Of several the one that this list has first
 /// is told.
-#[derive(Clone, Copy, Debug, Drop, PartialEq, Eq, Error)]
+#[derive(Clone, Copy, Debug, Drop, PartialEq, Error)]
 pub enum ColumnShape {
     /// The value is no object, or has a member too many or too few.
     #[error("it is not an object of `name` and `type`, with `nullable` and `default` where they are wanted")]
@@ -32,7 +32,7 @@ pub enum ColumnShape {
 }
 
 /// Why a JSON value gave no column.
-#[derive(Debug, Drop)]
+#[derive(Drop)]
 pub(crate) enum ColumnFault {
     /// It isn't of the form of a column.
     Shape(ColumnShape),

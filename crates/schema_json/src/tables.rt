@@ -10,7 +10,7 @@ use thiserror::Error;
 
 /// What of a JSON value isn't of the form of a table. Of several the one that this list has first is
 /// told.
-#[derive(Clone, Copy, Debug, Drop, PartialEq, Eq, Error)]
+#[derive(Debug, Drop, PartialEq, Error)]
 pub enum TableShape {
     /// The value is no object, or hasn't exactly two members.
     #[error("it is not an object of `columns` and `keys`, and of nothing else")]
@@ -25,7 +25,7 @@ pub enum TableShape {
 
 /// Why a text describes no table. The fault that this list has first is told, and among columns
 /// of a wrong form that of the first.
-#[derive(Clone, Copy, Debug, Drop, PartialEq, Eq, Error)]
+#[derive(Debug, Drop, PartialEq, Error)]
 pub enum TableFault {
     /// The text is no JSON.
     #[error("the text is not JSON, which has no comment, no comma before `]` or `}}`, and no byte order mark")]

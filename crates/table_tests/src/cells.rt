@@ -1,5 +1,6 @@
 ghost use Rattle.cell_text.specs.Texts.{IsWritable};
 
+use crate::columns::{is_text, number_in};
 use cell_text::{CellFault, read_cell, write_cell};
 use pk_values::{Kind, Octets, Value};
 use std::alloc::{AllocError, Global};
@@ -8,6 +9,21 @@ use std::test::Fail;
 const LEAST: i128 = -170141183460469231731687303715884105728;
 
 const GREATEST: i128 = 170141183460469231731687303715884105727;
+
+// The number, the truth or the day that a cell reads as, or nothing where it is bad. What isn't of the kind is told as want of memory.
+fn read_number(alloc: Global, kind: &Kind, bytes: &[u8]) -> Result<Option<i128>, CellFault> {
+    match read_cell(alloc, kind, bytes) {
+        Ok(value) => {
+            if kind.fits(&value) {
+                Ok(number_in(Some(&value)))
+            } else {
+                Err(CellFault::Memory)
+            }
+        }
+        Err(CellFault::BadCell) => Ok(None),
+        Err(CellFault::Memory) => Err(CellFault::Memory),
+    }
+}
 
 #[test]
 fn numbers_are_read_at_both_ends_of_their_kinds(rt: HostRuntime) -> Result<(), Fail> {
@@ -63,17 +79,14 @@ fn numbers_are_read_at_both_ends_of_their_kinds(rt: HostRuntime) -> Result<(), F
         (Kind::Int, b"-+1", None),
     ];
     for (kind, bytes, number) in cases {
-        match read_cell(rt.alloc(), &kind, bytes) {
-            Ok(value) => assert!(rt; Some(value) == number.map(Value::Num)),
-            Err(fault) => assert!(rt; number.is_none() && fault == CellFault::BadCell),
-        }
+        assert!(rt; read_number(rt.alloc(), &kind, bytes)? == number);
     }
     Ok(())
 }
 
 #[test]
 fn dates_are_read_where_the_calendar_has_them(rt: HostRuntime) -> Result<(), Fail> {
-    let cases: [(&[u8], Option<i32>); 13] = [
+    let cases: [(&[u8], Option<i128>); 13] = [
         (b"0000-01-01", Some(0)),
         (b"1970-01-01", Some(719_528)),
         (b"2000-02-29", Some(730_544)),
@@ -89,46 +102,57 @@ fn dates_are_read_where_the_calendar_has_them(rt: HostRuntime) -> Result<(), Fai
         (b"", None),
     ];
     for (bytes, day) in cases {
-        match read_cell(rt.alloc(), &Kind::Date, bytes) {
-            Ok(value) => assert!(rt; Some(value) == day.map(Value::Day)),
-            Err(fault) => assert!(rt; day.is_none() && fault == CellFault::BadCell),
-        }
+        assert!(rt; read_number(rt.alloc(), &Kind::Date, bytes)? == day);
     }
     Ok(())
 }
 
 #[test]
-fn truths_and_texts_are_read(rt: HostRuntime) -> Result<(), Fail> {
-    let alloc = rt.alloc();
-    let words: [(&[u8], Option<bool>); 8] = [
-        (b"0", Some(false)),
-        (b"FaLsE", Some(false)),
-        (b"1", Some(true)),
-        (b"TRUE", Some(true)),
+fn truths_are_read_in_any_case(rt: HostRuntime) -> Result<(), Fail> {
+    let words: [(&[u8], Option<i128>); 8] = [
+        (b"0", Some(0)),
+        (b"FaLsE", Some(0)),
+        (b"1", Some(1)),
+        (b"TRUE", Some(1)),
         (b"2", None),
         (b"00", None),
         (b"truey", None),
         (b"", None),
     ];
     for (bytes, truth) in words {
-        match read_cell(alloc, &Kind::Boolean, bytes) {
-            Ok(value) => assert!(rt; Some(value) == truth.map(Value::Bool)),
-            Err(fault) => assert!(rt; truth.is_none() && fault == CellFault::BadCell),
-        }
+        assert!(rt; read_number(rt.alloc(), &Kind::Boolean, bytes)? == truth);
     }
-    assert!(rt; read_cell(alloc, &Kind::Varchar(2), b"\\N")? == Value::Null);
-    assert!(rt; read_cell(alloc, &Kind::Date, b"\\N")? == Value::Null);
-    assert!(rt;
-        read_cell(alloc, &Kind::Varchar(2), b"")? == Value::Text(Octets::from_slice(alloc, b"")?)
-    );
-    assert!(rt;
-        read_cell(alloc, &Kind::Varchar(2), b"\\n")?
-            == Value::Text(Octets::from_slice(alloc, b"\\n")?)
-    );
-    match read_cell(alloc, &Kind::Varchar(2), b"abc") {
-        Ok(_) => assert!(rt; false),
-        Err(fault) => assert!(rt; fault == CellFault::BadCell),
+    Ok(())
+}
+
+// Whether a cell reads as this text, or as NULL.
+fn reads_as(
+    alloc: Global,
+    kind: &Kind,
+    bytes: &[u8],
+    text: Option<&[u8]>,
+) -> Result<bool, CellFault> {
+    let value = read_cell(alloc, kind, bytes)?;
+    Ok(match text {
+        Some(text) => is_text(Some(&value), text),
+        None => matches!(value, Value::Null),
+    })
+}
+
+#[test]
+fn texts_and_null_are_read(rt: HostRuntime) -> Result<(), Fail> {
+    let cases: [(Kind, &[u8], Option<&[u8]>); 5] = [
+        (Kind::Varchar(2), b"\\N", None),
+        (Kind::Date, b"\\N", None),
+        (Kind::Varchar(2), b"", Some(b"")),
+        (Kind::Varchar(2), b"\\n", Some(b"\\n")),
+        (Kind::Varchar(2), b"ab", Some(b"ab")),
+    ];
+    for (kind, bytes, text) in cases {
+        assert!(rt; reads_as(rt.alloc(), &kind, bytes, text)?);
     }
+    let long = read_number(rt.alloc(), &Kind::Varchar(2), b"abc")?;
+    assert!(rt; long.is_none());
     Ok(())
 }
 
@@ -142,29 +166,34 @@ fn is_shown(alloc: Global, value: &Value, text: &[u8]) -> Result<bool, AllocErro
 }
 
 #[test]
-fn cells_are_shown_as_in_a_report(rt: HostRuntime) -> Result<(), Fail> {
+fn numbers_and_truths_are_shown_as_in_a_report(rt: HostRuntime) -> Result<(), Fail> {
     let alloc = rt.alloc();
+    let numbers: [(i128, &[u8]); 3] = [
+        (0, b"0"),
+        (LEAST, b"-170141183460469231731687303715884105728"),
+        (GREATEST, b"170141183460469231731687303715884105727"),
+    ];
+    for (number, shown) in numbers {
+        assert!(rt; is_shown(alloc, &Value::Num(number), shown)?);
+    }
+    for (truth, shown) in [(false, b"0"), (true, b"1")] {
+        assert!(rt; is_shown(alloc, &Value::Bool(truth), shown)?);
+    }
     assert!(rt; is_shown(alloc, &Value::Null, b"\\N")?);
-    assert!(rt; is_shown(alloc, &Value::Bool(false), b"0")?);
-    assert!(rt; is_shown(alloc, &Value::Bool(true), b"1")?);
-    assert!(rt; is_shown(alloc, &Value::Num(0), b"0")?);
-    assert!(rt;
-        is_shown(
-            alloc,
-            &Value::Num(LEAST),
-            b"-170141183460469231731687303715884105728"
-        )?
-    );
-    assert!(rt;
-        is_shown(
-            alloc,
-            &Value::Num(GREATEST),
-            b"170141183460469231731687303715884105727"
-        )?
-    );
-    assert!(rt; is_shown(alloc, &Value::Day(0), b"0000-01-01")?);
-    assert!(rt; is_shown(alloc, &Value::Day(730_544), b"2000-02-29")?);
-    assert!(rt; is_shown(alloc, &Value::Day(3_652_424), b"9999-12-31")?);
+    Ok(())
+}
+
+#[test]
+fn days_are_shown_as_in_a_report(rt: HostRuntime) -> Result<(), Fail> {
+    let days: [(i32, &[u8]); 3] = [
+        (0, b"0000-01-01"),
+        (730_544, b"2000-02-29"),
+        (3_652_424, b"9999-12-31"),
+    ];
+    for (day, shown) in days {
+        assert!(rt; 0 <= day && day <= 3_652_424);
+        assert!(rt; is_shown(rt.alloc(), &Value::Day(day), shown)?);
+    }
     Ok(())
 }
 

@@ -5,6 +5,8 @@
 #[cfg(test)]
 mod cells;
 #[cfg(test)]
+mod codes;
+#[cfg(test)]
 mod columns;
 #[cfg(test)]
 mod histories;

@@ -1,7 +1,7 @@
-use crate::columns::column;
+use crate::columns::{column, is_text, number_in};
 use load_csv::{LoadFault, read_load};
 use pk_model::{Load, Op};
-use pk_values::{Column, Kind, Octets, Schema, Value};
+use pk_values::{Column, Kind, Schema, Value};
 use std::alloc::{AllocError, Global};
 use std::test::Fail;
 
@@ -31,24 +31,37 @@ fn load(alloc: Global, schema: &Schema, file: &[u8]) -> Result<Load, LoadFault> 
     read_load(alloc, schema, file)
 }
 
-fn text(alloc: Global, bytes: &[u8]) -> Result<Value, AllocError> {
-    Ok(Value::Text(Octets::from_slice(alloc, bytes)?))
+// Whether a line deletes at a key of this number.
+fn is_delete_at(op: &Op, number: i128) -> bool {
+    match op {
+        Op::Upsert { .. } => false,
+        Op::Delete { key } => number_in(key.cells.first()) == Some(number),
+    }
 }
 
-// Whether a line upserts one cell at a key of one cell.
-fn is_upsert(op: &Op, told: &Value, given: &Value) -> bool {
+// Whether a line upserts this day at a key of this number.
+fn is_day_at(op: &Op, number: i128, day: i128) -> bool {
     match op {
         Op::Upsert { key, cells } => {
-            key.cells.first() == Some(told) && cells.as_slice().first() == Some(given)
+            number_in(key.cells.first()) == Some(number)
+                && number_in(cells.as_slice().first()) == Some(day)
         }
         Op::Delete { .. } => false,
     }
 }
 
-fn is_delete(op: &Op, told: &Value) -> bool {
+// Whether a line upserts this text, or NULL, at a key of a text.
+fn is_text_at(op: &Op, at: &[u8], text: Option<&[u8]>) -> bool {
     match op {
-        Op::Upsert { .. } => false,
-        Op::Delete { key } => key.cells.first() == Some(told),
+        Op::Upsert { key, cells } => {
+            let cell = cells.as_slice().first();
+            is_text(key.cells.first(), at)
+                && match text {
+                    Some(bytes) => is_text(cell, bytes),
+                    None => matches!(cell, Some(Value::Null)),
+                }
+        }
+        Op::Delete { .. } => false,
     }
 }
 
@@ -104,51 +117,55 @@ fn faults_of_rows(rt: HostRuntime) -> Result<(), Fail> {
 }
 
 #[test]
-fn lines_of_a_file(rt: HostRuntime) -> Result<(), Fail> {
-    let alloc = rt.alloc();
-    let days = load(
-        alloc,
-        &dates(alloc)?,
-        b"d,__op,k\nx,1,+07\n2023-02-28,0,-8\n",
-    )?;
-    assert_eq!(rt; days.given.as_slice(), [1u32].as_slice());
-    let lines = days.ops.as_slice();
-    assert_eq!(rt; lines.len(), 2);
-    assert!(rt; is_delete(&lines[0], &Value::Num(7)));
-    assert!(rt; is_upsert(&lines[1], &Value::Num(-8), &Value::Day(738_944)));
-    let file = b"\xef\xbb\xbfv,k\rx\"y,a\0b\r\n\\N,\"\"\"\"\n";
-    let words = load(alloc, &texts(alloc)?, file)?;
-    let lines = words.ops.as_slice();
-    assert_eq!(rt; lines.len(), 2);
-    assert!(rt; is_upsert(&lines[0], &text(alloc, b"a\0b")?, &text(alloc, b"x\"y")?));
-    assert!(rt; is_upsert(&lines[1], &text(alloc, b"\"")?, &Value::Null));
+fn lines_of_numbers_and_days(rt: HostRuntime) -> Result<(), Fail> {
+    let schema = dates(rt.alloc())?;
+    let days = load(rt.alloc(), &schema, b"d,__op,k\nx,1,+07\n2023-02-28,0,-8\n")?;
+    assert!(rt; days.given.as_slice() == [1u32].as_slice());
+    match days.ops.as_slice() {
+        [first, second] => {
+            assert!(rt; is_delete_at(first, 7) && is_day_at(second, -8, 738_944));
+        }
+        _ => assert!(rt; false),
+    }
     Ok(())
 }
 
-// A file of a row whose key is so many letters, with these bytes after it.
+#[test]
+fn lines_of_texts(rt: HostRuntime) -> Result<(), Fail> {
+    let schema = texts(rt.alloc())?;
+    let file = b"\xef\xbb\xbfv,k\rx\"y,a\0b\r\n\\N,\"\"\"\"\n";
+    let words = load(rt.alloc(), &schema, file)?;
+    match words.ops.as_slice() {
+        [first, second] => {
+            assert!(rt; is_text_at(first, b"a\0b", Some(b"x\"y")));
+            assert!(rt; is_text_at(second, b"\"", None));
+        }
+        _ => assert!(rt; false),
+    }
+    Ok(())
+}
+
+// A file of a row whose key is so many letters, 201 at most, with these bytes after it.
 fn long_key(alloc: Global, length: usize, after: &[u8]) -> Result<Vec<u8>, AllocError> {
     let mut file = Vec::from_slice(alloc, b"k,v\n")?;
-    for _ in 0..length {
-        file.push(b'a')?;
-    }
+    file.extend_from_slice([b'a'; 201].get(..length).unwrap_or(&[]))?;
     file.extend_from_slice(after)?;
     Ok(file)
 }
 
 #[test]
 fn long_keys(rt: HostRuntime) -> Result<(), Fail> {
-    let alloc = rt.alloc();
-    let schema = texts(alloc)?;
-    let fault = |length: usize, after: &[u8]| -> Result<Option<LoadFault>, AllocError> {
-        Ok(load(alloc, &schema, &long_key(alloc, length, after)?).err())
-    };
-    assert_eq!(rt; fault(128, b",x\n")?, None);
-    assert_eq!(rt;
-        fault(129, b",x\n2\n")?,
-        Some(LoadFault::KeyTooLong(1, 129))
-    );
-    assert_eq!(rt; fault(129, b",abcde\n")?, Some(LoadFault::BadCell(1, 2)));
-    assert_eq!(rt; fault(201, b",abcde\n")?, Some(LoadFault::BadCell(1, 1)));
+    let schema = texts(rt.alloc())?;
+    let cases: [(usize, &[u8], Option<LoadFault>); 4] = [
+        (128, b",x\n", None),
+        (129, b",x\n2\n", Some(LoadFault::KeyTooLong(1, 129))),
+        (129, b",abcde\n", Some(LoadFault::BadCell(1, 2))),
+        (201, b",abcde\n", Some(LoadFault::BadCell(1, 1))),
+    ];
+    for (length, after, fault) in cases {
+        let file = long_key(rt.alloc(), length, after)?;
+        assert!(rt; load(rt.alloc(), &schema, &file).err() == fault, "{length}");
+    }
     Ok(())
 }
 

@@ -1,4 +1,5 @@
-use pk_values::{Kind, SchemaFault, Value};
+use crate::columns::number_in;
+use pk_values::{Column, Kind, SchemaFault};
 use schema_json::{ColumnShape, TableFault, TableShape, read_table};
 use std::alloc::{AllocError, Global};
 
@@ -8,6 +9,8 @@ fn table(alloc: Global, columns: &str, keys: &str) -> Result<String, AllocError>
 }
 
 const KEY: &str = r#"{"name":"k","type":"INT"}"#;
+
+const BAD_NAME: &str = r#"{"name":"__v","type":"VARCHAR(0)","nullable":true}"#;
 
 #[test]
 fn texts_that_are_no_table(rt: HostRuntime) {
@@ -133,34 +136,38 @@ fn columns_of_a_wrong_shape(rt: HostRuntime) -> Result<(), AllocError> {
 #[test]
 fn columns_that_make_no_schema(rt: HostRuntime) -> Result<(), AllocError> {
     let alloc = rt.alloc();
-    let bad_name = r#"{"name":"__v","type":"VARCHAR(0)","nullable":true}"#;
     let bad_kind = r#"{"name":"k","type":"VARCHAR(65534)","nullable":true}"#;
     let same = r#"{"name":"k","type":"INT","nullable":true,"default":"1"}"#;
     let nullable = r#"{"name":"v","type":"INT","nullable":true,"default":"1"}"#;
     let with_default = r#"{"name":"v","type":"INT","default":null}"#;
     for (second, keys, fault) in [
-        (bad_name, "0", SchemaFault::NoKey),
-        (bad_name, "4", SchemaFault::ManyKeys),
-        (bad_name, "2", SchemaFault::NameUnfit(2)),
+        (BAD_NAME, "0", SchemaFault::NoKey),
+        (BAD_NAME, "4", SchemaFault::ManyKeys),
+        (BAD_NAME, "2", SchemaFault::NameUnfit(2)),
         (bad_kind, "2", SchemaFault::KindUnfit(2)),
         (same, "2", SchemaFault::SameName(1, 2)),
         (nullable, "2", SchemaFault::KeyNullable(2)),
         (with_default, "2", SchemaFault::KeyDefault(2)),
         (with_default, "1", SchemaFault::DefaultUnfit(2)),
     ] {
-        let columns = format!(in alloc; "{KEY},{second},{bad_name}")?;
+        let columns = format!(in alloc; "{KEY},{second},{BAD_NAME}")?;
         let text = table(alloc, columns.as_str(), keys)?;
         let told = read_table(alloc, text.as_bytes()).err();
         assert!(rt; told == Some(TableFault::Bad(fault)), "{second} {keys}");
     }
-    let mut many = String::new(alloc);
+    Ok(())
+}
+
+#[test]
+fn more_columns_than_may_be(rt: HostRuntime) -> Result<(), AllocError> {
+    let mut columns = String::new(rt.alloc());
     for _ in 0..64 {
-        many.push_str(KEY)?;
-        many.push_str(",")?;
+        columns.push_str(KEY)?;
+        columns.push_str(",")?;
     }
-    many.push_str(bad_name)?;
-    let text = table(alloc, many.as_str(), "0")?;
-    let told = read_table(alloc, text.as_bytes()).err();
+    columns.push_str(BAD_NAME)?;
+    let text = table(rt.alloc(), columns.as_str(), "0")?;
+    let told = read_table(rt.alloc(), text.as_bytes()).err();
     assert!(rt; told == Some(TableFault::Bad(SchemaFault::ManyColumns)));
     Ok(())
 }
@@ -188,34 +195,53 @@ fn faults_say_what_to_mend(rt: HostRuntime) -> Result<(), AllocError> {
     Ok(())
 }
 
+// A table with a column of each type.
+const EACH_TYPE: &str = r#"{"keys":9,"columns":[{"name":"k","type":"bigInt"},
+    {"name":"a","type":"Boolean","default":"TRUE"},{"name":"b","type":"tinyint"},
+    {"name":"c","type":"sMALLINT"},{"name":"d","type":"int","nullable":true,"default":"\\N"},
+    {"name":"e","type":"LargeInt","default":"-170141183460469231731687303715884105728"},
+    {"name":"f","type":"date","default":"1970-01-01"},
+    {"name":"g","type":"varCHAR(0065533)","nullable":true,"default":null}],"keys":1}"#;
+
 #[test]
-fn a_table_with_each_type(rt: HostRuntime) {
-    let alloc = rt.alloc();
-    let text = br#"{"keys":9,"columns":[{"name":"k","type":"bigInt"},
-        {"name":"a","type":"Boolean","default":"TRUE"},{"name":"b","type":"tinyint"},
-        {"name":"c","type":"sMALLINT"},{"name":"d","type":"int","nullable":true,"default":"\\N"},
-        {"name":"e","type":"LargeInt","default":"-170141183460469231731687303715884105728"},
-        {"name":"f","type":"date","default":"1970-01-01"},
-        {"name":"g","type":"varCHAR(0065533)","nullable":true,"default":null}],"keys":1}"#;
-    let schema = read_table(alloc, text).expect(&rt, "a table");
+fn types_in_any_case(rt: HostRuntime) {
+    let schema = read_table(rt.alloc(), EACH_TYPE.as_bytes()).expect(&rt, "a table");
     assert!(rt; schema.keys() == 1 && schema.count() == 8);
     let kinds = [
-        Kind::BigInt,
-        Kind::Boolean,
-        Kind::TinyInt,
-        Kind::SmallInt,
-        Kind::Int,
-        Kind::LargeInt,
-        Kind::Date,
-        Kind::Varchar(65_533),
+        (Kind::BigInt, false),
+        (Kind::Boolean, false),
+        (Kind::TinyInt, false),
+        (Kind::SmallInt, false),
+        (Kind::Int, true),
+        (Kind::LargeInt, false),
+        (Kind::Date, false),
+        (Kind::Varchar(65_533), true),
     ];
-    for (column, kind) in schema.columns().iter().zip(kinds) {
-        assert!(rt; column.kind == kind);
+    for (column, (kind, nullable)) in schema.columns().iter().zip(kinds) {
+        assert!(rt; column.kind == kind && column.nullable == nullable);
     }
-    assert!(rt; schema.columns()[1].default == Some(Value::Bool(true)));
-    assert!(rt; schema.columns()[2].default.is_none() && !schema.columns()[2].nullable);
-    assert!(rt; schema.columns()[4].default == Some(Value::Null));
-    assert!(rt; schema.columns()[5].default == Some(Value::Num(i128::MIN)));
-    assert!(rt; schema.columns()[6].default == Some(Value::Day(719_528)));
-    assert!(rt; schema.columns()[7].nullable && schema.columns()[7].default == Some(Value::Null));
+}
+
+// Whether a column has a default, and it is this number, or NULL.
+fn has_default(column: &Column, number: Option<i128>) -> bool {
+    column.default.is_some() && number_in(column.default.as_ref()) == number
+}
+
+#[test]
+fn defaults_of_each_type(rt: HostRuntime) {
+    let schema = read_table(rt.alloc(), EACH_TYPE.as_bytes()).expect(&rt, "a table");
+    for (place, number) in [
+        (1, Some(1)),
+        (4, None),
+        (5, Some(i128::MIN)),
+        (6, Some(719_528)),
+        (7, None),
+    ] {
+        let column = schema.columns().get(place).expect(&rt, "a column");
+        assert!(rt; has_default(column, number), "{place}");
+    }
+    for place in [0, 2, 3] {
+        let column = schema.columns().get(place).expect(&rt, "a column");
+        assert!(rt; column.default.is_none(), "{place}");
+    }
 }
