@@ -18,11 +18,6 @@ use Rattle.clap.specs.Walk.{rows_of}
 use Rattle.clap.specs.declared.parser.matches.ArgMatches.{ArgMatches}
 use Rattle.clap.proofs.WalkLemmas.{first_value-rows}
 use Rattle.command_line.specs.Words.{Named, command, files_of, is_plain}
-use Rattle.clap.specs.Kinds.{Kinds, or_else}
-use Rattle.clap.specs.Faults.{bundle_fault, check_fault, defaults_fault, entered_fault, fault_of, flag_word_fault, settle_fault, step_fault, turn_fault, walk_fault, word_fault}
-use Rattle.clap.specs.Walk.{settled}
-use Rattle.clap.specs.declared.error.kind.ErrorKind.TheVariants.{MissingRequiredArgument, UnknownArgument}
-use Rattle.std.proofs.Common.{ap₂}
 use Rattle.clap.proofs.OnLiterals.{clap_on_literals}
 
 pub simple : is_simple command ≡ true
@@ -235,87 +230,3 @@ got (Some s) d v e = cc
 pub read_of : (m : ArgMatches) (id : Text) (r : Option (Bor Text)) (d : Bor Text) (v : Text) (rows : List Row)
     → rows_of (found_of m) ≡ rows → first_of id rows ≡ Some v → option_map (λ s. s.now) r ≡ first_value (found_of m) id → (unwrap_or r d).now ≡ v
 read_of m id r d v rows has at get = got r d v (get ∙ first_value-rows (found_of m) id ∙ ap (first_of id) has ∙ at)
-
--- ---- other numbers of plain words
-
-word_from : (s : Shape) (word : Text) (h : Held) → long_of word ≡ None → short_of word ≡ None → bytes_eq word (45 ∷ 45 ∷ []) ≡ false
-    → word_fault s [] false idle word h ≡ []
-word_from s word h l sh e =
-    ap (λ (b : Bool). cond b [] (flag_word_fault s.rules s.args_override_self (long_of word) word h)) e
-    ∙ ap (λ (o : Option (Text × Option Text)). flag_word_fault s.rules s.args_override_self o word h) l
-    ∙ ap (λ (o : Option Text). option_map_or (λ flags. bundle_fault s.rules s.args_override_self flags h) o []) sh
-
-fault_plain : (s : Shape) (p x : ℕ) (xs : Text) (h : Held) → (x == 45) ≡ false → turn_fault s [] (between p h) (x ∷ xs) ≡ step_fault s p h value
-fault_plain s p x xs h e =
-    ap (λ (m : Held × Step). or_else (word_fault s [] false idle (x ∷ xs) h) (step_fault s p m.0 m.1)) (met_plain s.rules p x xs h e)
-    ∙ ap (λ (ks : Kinds). or_else ks (step_fault s p h value)) (word_from s (x ∷ xs) h (no_long x xs e) (no_short x xs e) (no_escape x xs e))
-
--- what follows the walk, where it came to w
-fault_after : Kinds → Walk → Kinds
-fault_after walked_so w = or_else walked_so (or_else (entered_fault (built command) w.stopped) (or_else (settle_fault rules shape.args_override_self w.held)
-    (or_else (defaults_fault (settled rules w.held).rows rules) (check_fault shape (finished rules w.held) (is_some (entered (built command) w.stopped))))))
-
-step_one_fault : step_fault shape 1 nothing_held value ≡ []
-unfolding clap_on_literals
-step_one_fault = refl
-
-step_two_fault : (w : Text) → step_fault shape 2 (first w).held value ≡ []
-unfolding clap_on_literals
-step_two_fault w = refl
-
-step_three_fault : (w v : Text) → step_fault shape 3 (second w v).held value ≡ []
-unfolding clap_on_literals
-step_three_fault w v = refl
-
-step_four_fault : (h : Held) → step_fault shape 4 h value ≡ UnknownArgument ∷ []
-unfolding clap_on_literals
-step_four_fault h = refl
-
-none_refused : fault_of command [] ≡ MissingRequiredArgument ∷ []
-unfolding clap_on_literals
-none_refused = refl
-
-one_end : (w : Text) → fault_after [] (first w) ≡ MissingRequiredArgument ∷ []
-unfolding clap_on_literals fault_after
-one_end w = refl
-
-one_refused : (x : ℕ) (xs : Text) → (x == 45) ≡ false → fault_of command ((x ∷ xs) ∷ []) ≡ MissingRequiredArgument ∷ []
-unfolding fault_after walk_fault
-one_refused x xs e =
-    ap₂ fault_after (ap (λ (ks : Kinds). or_else ks []) (fault_plain shape 1 x xs nothing_held e ∙ step_one_fault)) (walked_plain rules 1 x xs nothing_held e)
-    ∙ one_end (x ∷ xs)
-
-two_end : (w v : Text) → fault_after [] (second w v) ≡ MissingRequiredArgument ∷ []
-unfolding clap_on_literals fault_after
-two_end w v = refl
-
-two_refused : (x y : ℕ) (xs ys : Text) → (x == 45) ≡ false → (y == 45) ≡ false → fault_of command ((x ∷ xs) ∷ (y ∷ ys) ∷ []) ≡ MissingRequiredArgument ∷ []
-unfolding fault_after walk_fault
-two_refused x y xs ys e f =
-    let after_first = walked_plain rules 1 x xs nothing_held e ∙ first_between (x ∷ xs) in
-    let after_second = walked_plain rules 2 y ys (first (x ∷ xs)).held f in
-    ap₂ fault_after
-    (ap (λ (ks : Kinds). or_else ks (walk_fault shape [] (walked rules [] (walk_from nothing_held) (x ∷ xs)) ((y ∷ ys) ∷ []))) (fault_plain shape 1 x xs nothing_held e ∙ step_one_fault)
-    ∙ ap (λ (w : Walk). walk_fault shape [] w ((y ∷ ys) ∷ [])) after_first
-    ∙ ap (λ (ks : Kinds). or_else ks []) (fault_plain shape 2 y ys (first (x ∷ xs)).held f ∙ step_two_fault (x ∷ xs)))
-    (ap (λ (w : Walk). walked rules [] w (y ∷ ys)) after_first ∙ after_second)
-    ∙ two_end (x ∷ xs) (y ∷ ys)
-
--- a fourth word is one too many, whatever follows it
-four_refused : (t : Three) (x : ℕ) (xs : Text) (rest : List Text) → (x == 45) ≡ false
-    → fault_of command ((t.a ∷ t.at) ∷ (t.b ∷ t.bt) ∷ (t.c ∷ t.ct) ∷ (x ∷ xs) ∷ rest) ≡ UnknownArgument ∷ []
-unfolding fault_after walk_fault
-four_refused t x xs rest e =
-    let words = (t.a ∷ t.at) ∷ (t.b ∷ t.bt) ∷ (t.c ∷ t.ct) ∷ (x ∷ xs) ∷ rest in
-    ap (λ (ks : Kinds). fault_after ks (walk rules [] nothing_held words))
-    (ap (λ (ks : Kinds). or_else ks (walk_fault shape [] (walked rules [] (walk_from nothing_held) (t.a ∷ t.at)) ((t.b ∷ t.bt) ∷ (t.c ∷ t.ct) ∷ (x ∷ xs) ∷ rest)))
-    (fault_plain shape 1 t.a t.at nothing_held t.plain_a ∙ step_one_fault)
-    ∙ ap (λ (w : Walk). walk_fault shape [] w ((t.b ∷ t.bt) ∷ (t.c ∷ t.ct) ∷ (x ∷ xs) ∷ rest)) (after_one t)
-    ∙ ap (λ (ks : Kinds). or_else ks (walk_fault shape [] (walked rules [] (between 2 (first (t.a ∷ t.at)).held) (t.b ∷ t.bt)) ((t.c ∷ t.ct) ∷ (x ∷ xs) ∷ rest)))
-    (fault_plain shape 2 t.b t.bt (first (t.a ∷ t.at)).held t.plain_b ∙ step_two_fault (t.a ∷ t.at))
-    ∙ ap (λ (w : Walk). walk_fault shape [] w ((t.c ∷ t.ct) ∷ (x ∷ xs) ∷ rest)) (after_two t)
-    ∙ ap (λ (ks : Kinds). or_else ks (walk_fault shape [] (walked rules [] (between 3 (second (t.a ∷ t.at) (t.b ∷ t.bt)).held) (t.c ∷ t.ct)) ((x ∷ xs) ∷ rest)))
-    (fault_plain shape 3 t.c t.ct (second (t.a ∷ t.at) (t.b ∷ t.bt)).held t.plain_c ∙ step_three_fault (t.a ∷ t.at) (t.b ∷ t.bt))
-    ∙ ap (λ (w : Walk). walk_fault shape [] w ((x ∷ xs) ∷ rest)) (after_three t)
-    ∙ ap (λ (ks : Kinds). or_else ks (walk_fault shape [] (walked rules [] (between 4 (third (t.a ∷ t.at) (t.b ∷ t.bt) (t.c ∷ t.ct)).held) (x ∷ xs)) rest))
-    (fault_plain shape 4 x xs (third (t.a ∷ t.at) (t.b ∷ t.bt) (t.c ∷ t.ct)).held e ∙ step_four_fault (third (t.a ∷ t.at) (t.b ∷ t.bt) (t.c ∷ t.ct)).held))

@@ -42,9 +42,10 @@ texts = map (λ s. s.now)
 abbrev pub files_view : Files → Named
 files_view f = record { table = f.table.now; script = f.script.now }
 
--- the command as `clap` sees it: three words, each of them required
-abbrev positional : List ℕ → Rule
+-- a word that is required
+abbrev pub positional : List ℕ → Rule
 positional id = record (new_rule id) { required = true; action = Some Set }
 
+-- the command as `clap` sees it
 abbrev pub command : App
 command = with_rule (with_rule (with_rule (on_top (λ s. record s { no_binary_name = true }) (new_app (codes "pktablet"))) (positional (codes "job"))) (positional (codes "table"))) (positional (codes "script"))

@@ -1,16 +1,16 @@
 //! The words of the command line: `run TABLE SCRIPT`, read by `clap`.
 #![tactic(auto)]
 
-ghost use Rattle.std.specs.Prelude.{◌≡◌, ◌↔◌, Some, None, IsSome, IfOk, IfErr, IsErrOf, IsOk, is_some};
-ghost use Rattle.clap.specs.Words.{app_of};
-ghost use Rattle.command_line.specs.Words.{asked_by, files_of, files_view, texts};
+ghost use Rattle.std.specs.Prelude.{◌≡◌, ◌↔◌, Some, None, IsSome, IfOk, IfErr, IsErrOf, IsOk, false, is_some};
+ghost use Rattle.clap.specs.Words.{app_of, rule_of};
+ghost use Rattle.command_line.specs.Words.{asked_by, files_of, files_view, positional, texts};
 
 use clap::error::ErrorKind;
 use clap::{Arg, ArgAction, Command};
 use std::alloc::{AllocError, Global};
 
 /// Why words were not read.
-#[derive(Clone, Copy, Debug, Drop, PartialEq, Eq, thiserror::Error)]
+#[derive(Clone, Copy, Debug, Drop, thiserror::Error)]
 pub enum WordsFault {
     /// They are not `run` and two names, each of which is not empty and does not begin with `-`.
     #[error("the words are not `run TABLE SCRIPT`")]
@@ -21,7 +21,7 @@ pub enum WordsFault {
 }
 
 /// The names of a table's file and of a script's.
-#[derive(Clone, Copy, Debug, Drop)]
+#[derive(Clone, Copy, Drop)]
 pub struct Files<'a> {
     /// The name of the table's file: not empty, and not beginning with `-`.
     pub table: &'a str,
@@ -39,17 +39,21 @@ fn is_plain(word: &str) -> bool
     }
 }
 
+// A word that is required.
+fn word<'a>(alloc: Global, id: &'a str) -> Arg<'a>
+    ensures rule { rule_of result ≡ positional id.entry.now }
+    ensures local { result.global ≡ false }
+{
+    Arg::new(alloc, id).required(true).action(ArgAction::Set)
+}
+
 // The command: three words, each of them required.
 fn command<'a>(alloc: Global) -> Result<Command<'a>, AllocError>
     ensures { IfOk result (λ c. app_of c ≡ Rattle.command_line.specs.Words.command) }
 {
-    let job = Arg::new(alloc, "job").required(true).action(ArgAction::Set);
-    let table = Arg::new(alloc, "table")
-        .required(true)
-        .action(ArgAction::Set);
-    let script = Arg::new(alloc, "script")
-        .required(true)
-        .action(ArgAction::Set);
+    let job = word(alloc, "job");
+    let table = word(alloc, "table");
+    let script = word(alloc, "script");
     let bare = Command::new(alloc, "pktablet").no_binary_name(true);
     let made = bare.arg(job)?.arg(table)?.arg(script)?;
     Ok(made)
@@ -95,29 +99,30 @@ pub fn read_words<'a>(alloc: Global, words: &'a [&'a str]) -> Result<Files<'a>, 
     parsed(alloc, words)
 }
 
-// The command with what a person may want to know of it.
-fn described<'a>(alloc: Global) -> Result<Command<'a>, AllocError> {
-    let job = Arg::new(alloc, "run")
-        .required(true)
-        .action(ArgAction::Set)
-        .help("The word `run`");
-    let table = Arg::new(alloc, "TABLE")
-        .required(true)
-        .action(ArgAction::Set)
-        .help("A file with the table's columns, as JSON");
-    let script = Arg::new(alloc, "SCRIPT")
-        .required(true)
-        .action(ArgAction::Set)
-        .help("A file with a job on each line");
+// The command with its version and what it does.
+fn about<'a>(alloc: Global) -> Command<'a> {
     Command::new(alloc, "pktablet")
         .version("0.1.0")
         .about(
             "Runs the jobs of a script over one tablet of a primary key table, and prints a report of what became of each.",
         )
         .after_help(AFTER)
-        .arg(job)?
-        .arg(table)?
-        .arg(script)
+}
+
+// The command with what a person may want to know of it and of its words.
+fn described<'a>(alloc: Global) -> Result<Command<'a>, AllocError> {
+    let job = word(alloc, "run").help("The word `run`");
+    let table = word(alloc, "TABLE").help("A file with the table's columns, as JSON");
+    let script = word(alloc, "SCRIPT").help("A file with a job on each line");
+    about(alloc).arg(job)?.arg(table)?.arg(script)
+}
+
+fn help_text(alloc: Global) -> Result<String, AllocError> {
+    described(alloc)?.render_help()
+}
+
+fn version_text(alloc: Global) -> Result<String, AllocError> {
+    about(alloc).render_version()
 }
 
 const AFTER: &str = "\
@@ -129,7 +134,7 @@ Jobs (the lines of a script; `#` begins a comment):
   wait             begin a new phase";
 
 // What a single word asks for.
-#[derive(Clone, Copy, Debug, Drop)]
+#[derive(Clone, Copy, Drop)]
 enum Asked {
     Help,
     Version,
@@ -158,17 +163,8 @@ pub fn text_for(alloc: Global, word: &str) -> Result<Option<String>, AllocError>
     ensures unasked { asked_by word.now ≡ None → IsOk result }
 {
     match asked_by(word) {
-        Some(Asked::Help) => {
-            let mut command = described(alloc)?;
-            Ok(Some(command.render_help()?))
-        }
-        Some(Asked::Version) => {
-            let command = described(alloc)?;
-            Ok(Some(command.render_version()?))
-        }
+        Some(Asked::Help) => Ok(Some(help_text(alloc)?)),
+        Some(Asked::Version) => Ok(Some(version_text(alloc)?)),
         None => Ok(None),
     }
 }
-
-#[cfg(test)]
-mod tests;

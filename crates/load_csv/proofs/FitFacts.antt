@@ -12,7 +12,8 @@ use Rattle.cell_text.specs.Cells.{cell_of}
 use Rattle.load_csv.specs.declared.loads.LoadFault.{LoadFault}
 use Rattle.load_csv.specs.declared.headers.Field.{Field}
 use Rattle.load_csv.specs.declared.headers.Field.TheVariants as field
-use Rattle.load_csv.specs.Headers.{and_then, is_same, missing_from}
+use Rattle.load_csv.specs.Results.{◌and_then◌}
+use Rattle.load_csv.specs.Headers.{is_same, missing_from}
 use Rattle.load_csv.specs.Lines.{cell_at, cell_in, cells_of, if_fits, is_read, no_cells, with_cell, with_field, with_fields}
 
 -- ---- tests
@@ -26,10 +27,6 @@ equal_itself a = grind arith
 
 pub ltb-true : (a b : ℕ) → a < b → nat_lt a b ≡ true
 ltb-true a b h = grind arith
-
-pub first_true : (a b : Bool) → (a && b) ≡ true → a ≡ true
-first_true true b h = refl
-first_true false b h = h
 
 or_false : (a : Bool) → (a || false) ≡ true → a ≡ true
 or_false true h = refl
@@ -158,7 +155,7 @@ read-holds s n delete c k col cells final (f ∷ fields) (t ∷ texts) g r l w h
     by_step (with_field s n delete c cells f t) refl e (λ more. read-holds s n delete (c + 1) k col more final fields texts g r (omega arith))
   where
     by_step : (o : Result (List Value) LoadFault) → with_field s n delete c cells f t ≡ o
-        → and_then (λ more. with_fields s n delete (c + 1) more fields texts) o ≡ Ok final
+        → (o and_then (λ more. with_fields s n delete (c + 1) more fields texts)) ≡ Ok final
         → ((more : List Value) → length more ≡ length s.columns → (holds col (slice_get more k) || list_any (is_same (field.Column k)) fields) ≡ true → with_fields s n delete (c + 1) more fields texts ≡ Ok final → holds col (slice_get final k) ≡ true)
         → holds col (slice_get final k) ≡ true
     by_step (Err fault) o e later = cc e
@@ -185,7 +182,7 @@ with_fields-width s n delete c cells final (f ∷ fields) [] e = let q : cells �
 with_fields-width s n delete c cells final (f ∷ fields) (t ∷ texts) e =
     by_step (with_field s n delete c cells f t) refl e (λ more. with_fields-width s n delete (c + 1) more final fields texts)
   where
-    by_step : (o : Result (List Value) LoadFault) → with_field s n delete c cells f t ≡ o → and_then (λ more. with_fields s n delete (c + 1) more fields texts) o ≡ Ok final
+    by_step : (o : Result (List Value) LoadFault) → with_field s n delete c cells f t ≡ o → (o and_then (λ more. with_fields s n delete (c + 1) more fields texts)) ≡ Ok final
         → ((more : List Value) → with_fields s n delete (c + 1) more fields texts ≡ Ok final → length final ≡ length more) → length final ≡ length cells
     by_step (Err fault) o e later = cc e
     by_step (Ok more) o e later = later more e ∙ with_field-width s n delete c cells more f t o

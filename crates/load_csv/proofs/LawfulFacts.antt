@@ -17,7 +17,8 @@ use Rattle.pk_model.specs.Lawful.{HasShortKey, IsLawful, carries_needed, fits_gi
 use Rattle.load_csv.specs.declared.loads.LoadFault.{LoadFault}
 use Rattle.load_csv.specs.declared.loads.LoadFault.TheVariants as fault
 use Rattle.load_csv.specs.declared.headers.Field.{Field}
-use Rattle.load_csv.specs.Headers.{and_then, missing_from}
+use Rattle.load_csv.specs.Results.{◌and_then◌}
+use Rattle.load_csv.specs.Headers.{missing_from}
 use Rattle.load_csv.specs.Lines.{cells_of, if_short, is_delete, line_of, line_of_cells, line_told, line_with, op_of}
 use Rattle.load_csv.specs.Loads.{lines_after, most_rows, others, places, row_of}
 use Rattle.load_csv.proofs.FitFacts.{both, cells-hold, cells-width, equal_itself, get-drop, holds, key-fits, ltb-true, or_true}
@@ -117,7 +118,7 @@ line-good s fields n texts op whole e = by_width (length texts == length fields)
           short = rw named short;
         })
 
-    by_cells : (delete : Bool) (o : Result (List Value) LoadFault) → length texts ≡ length fields → cells_of s fields n delete texts ≡ o → and_then (line_with s n delete) o ≡ Ok op → Good s op
+    by_cells : (delete : Bool) (o : Result (List Value) LoadFault) → length texts ≡ length fields → cells_of s fields n delete texts ≡ o → (o and_then line_with s n delete) ≡ Ok op → Good s op
     by_cells delete (Err f) l g e = cc e
     by_cells delete (Ok cells) l g e = by_length delete cells (nat_lt 128 (length (key_code s (take s.keys cells)))) l g refl e
 
@@ -153,7 +154,7 @@ lines-good s fields before [] ops whole g e = let q : before ≡ ops = cc e in s
 lines-good s fields before (row ∷ rows) ops whole g e =
     by_row (row_of s fields (length before + 1) row) refl e (λ op more. lines-good s fields (before ++ op ∷ []) rows ops whole more)
   where
-    by_row : (o : Result Op LoadFault) → row_of s fields (length before + 1) row ≡ o → and_then (λ op. lines_after s fields (before ++ op ∷ []) rows) o ≡ Ok ops
+    by_row : (o : Result Op LoadFault) → row_of s fields (length before + 1) row ≡ o → (o and_then (λ op. lines_after s fields (before ++ op ∷ []) rows)) ≡ Ok ops
         → ((op : Op) → AreGood s (before ++ op ∷ []) → lines_after s fields (before ++ op ∷ []) rows ≡ Ok ops → AreGood s ops) → AreGood s ops
     by_row (Err f) o e later = cc e
     by_row (Ok op) o e later =

@@ -21,7 +21,8 @@ use Rattle.load_csv.specs.declared.loads.LoadFault.{LoadFault}
 use Rattle.load_csv.specs.declared.loads.LoadFault.TheVariants as fault
 use Rattle.load_csv.specs.declared.headers.Field.{Field}
 use Rattle.load_csv.specs.declared.headers.Field.TheVariants as field
-use Rattle.load_csv.specs.Headers.{and_then, field_named, fields_after, is_same, missing_from, new_field, op_name, unless_missing}
+use Rattle.load_csv.specs.Results.{◌and_then◌}
+use Rattle.load_csv.specs.Headers.{field_named, fields_after, is_same, missing_from, new_field, op_name, unless_missing}
 use Rattle.load_csv.specs.Lines.{cell_at, cell_in, cells_of, is_delete, is_read, line_of, line_of_cells, line_told, line_with, no_cells, with_cell, with_field, with_fields}
 use Rattle.load_csv.specs.Loads.{lines_after, load_of, load_of_records, load_of_rows, most_rows, others, records_of, row_of, whole_load}
 use Rattle.load_csv.specs.Named.{SaysFile, SaysRow, SaysRows, cell_under, deletes, text_under}
@@ -166,7 +167,7 @@ walked s before fields [] a e =
 walked s before fields (n ∷ names) a e = by_field (field_named s n) refl e (λ f. walked s (before ++ f ∷ []) fields names)
   where
     by_new : (f : Field) (t : Bool) → field_named s n ≡ Some f → list_any (is_same f) before ≡ t
-        → and_then (λ (g : Field). fields_after s (before ++ g ∷ []) names) (if t then Err (fault.NameTwice (length before + 1)) else Ok f) ≡ Ok fields
+        → ((if t then Err (fault.NameTwice (length before + 1)) else Ok f) and_then (λ (g : Field). fields_after s (before ++ g ∷ []) names)) ≡ Ok fields
         → ((f : Field) → Apart (before ++ f ∷ []) → fields_after s (before ++ f ∷ []) names ≡ Ok fields → Walked s names (before ++ f ∷ []) fields)
         → Walked s (n ∷ names) before fields
     by_new f true w h e later = cc e
@@ -174,7 +175,7 @@ walked s before fields (n ∷ names) a e = by_field (field_named s n) refl e (λ
         let rest = later f (apart-push before f a h) e in
         record { more = f ∷ rest.more; fields_are = rest.fields_are ∙ append_assoc before (f ∷ []) rest.more; named = (w, rest.named); apart = rest.apart }
 
-    by_field : (o : Option Field) → field_named s n ≡ o → and_then (λ (g : Field). fields_after s (before ++ g ∷ []) names) (new_field before (length before + 1) o) ≡ Ok fields
+    by_field : (o : Option Field) → field_named s n ≡ o → (new_field before (length before + 1) o and_then (λ (g : Field). fields_after s (before ++ g ∷ []) names)) ≡ Ok fields
         → ((f : Field) → Apart (before ++ f ∷ []) → fields_after s (before ++ f ∷ []) names ≡ Ok fields → Walked s names (before ++ f ∷ []) fields)
         → Walked s (n ∷ names) before fields
     by_field None w e later = cc e
@@ -235,7 +236,7 @@ module _ (s : Layout) (n : ℕ) (delete : Bool) (k : ℕ) where
       by_step (with_field s n delete c cells f text) parts.0 refl e (λ more. kept (c + 1) more final fields texts parts.1)
     where
       by_step : (o : Result (List Value) LoadFault) → is_same (field.Column k) f ≡ false → with_field s n delete c cells f text ≡ o
-          → and_then (λ (more : List Value). with_fields s n delete (c + 1) more fields texts) o ≡ Ok final
+          → (o and_then (λ (more : List Value). with_fields s n delete (c + 1) more fields texts)) ≡ Ok final
           → ((more : List Value) → with_fields s n delete (c + 1) more fields texts ≡ Ok final → slice_get final k ≡ slice_get more k) → slice_get final k ≡ slice_get cells k
       by_step (Err bad) h o e later = cc e
       by_step (Ok more) h o e later = later more e ∙ other_field c cells more f text h o
@@ -275,7 +276,7 @@ module _ (s : Layout) (n : ℕ) (delete : Bool) (k : ℕ) where
             later more h (omega arith) (omega arith) e
 
         by_step : (o : Result (List Value) LoadFault) → with_field s n delete c cells f text ≡ o
-            → and_then (λ (more : List Value). with_fields s n delete (c + 1) more fields texts) o ≡ Ok final
+            → (o and_then (λ (more : List Value). with_fields s n delete (c + 1) more fields texts)) ≡ Ok final
             → ((more : List Value) → list_any (is_same (field.Column k)) fields ≡ true → length texts ≡ length fields → k < length more → with_fields s n delete (c + 1) more fields texts ≡ Ok final
             → slice_get final k ≡ option_and_then (cell_in column) (text_of (field.Column k) fields texts))
             → slice_get final k ≡ option_and_then (cell_in column) (if is_same (field.Column k) f then Some text else text_of (field.Column k) fields texts)
@@ -338,7 +339,7 @@ module _ (s : Layout) (names : List (List ℕ)) (fields : List Field) (valid : s
       by_length delete false cells says e = let is : line_of_cells s delete cells ≡ op = cc e in subst (SaysRow s names texts) is says
 
       by_cells : (delete : Bool) (o : Result (List Value) LoadFault) → length texts ≡ length fields → is_delete fields texts ≡ Some delete → cells_of s fields n delete texts ≡ o
-          → and_then (line_with s n delete) o ≡ Ok op → SaysRow s names texts op
+          → (o and_then line_with s n delete) ≡ Ok op → SaysRow s names texts op
       by_cells delete (Err bad) l d g e = cc e
       by_cells delete (Ok cells) l d g e = by_length delete (nat_lt 128 (length (key_code s (take s.keys cells)))) cells (cells-say n delete texts cells l d g) e
 
@@ -369,7 +370,7 @@ module _ (s : Layout) (names : List (List ℕ)) (fields : List Field) (valid : s
       record { more = []; ops_are = sym same ∙ sym (append-nil before); says = tt }
   lines-say before ops (row ∷ rows) e = by_row (row_of s fields (length before + 1) row) refl e (λ op. lines-say (before ++ op ∷ []) ops rows)
     where
-      by_row : (o : Result Op LoadFault) → row_of s fields (length before + 1) row ≡ o → and_then (λ (op : Op). lines_after s fields (before ++ op ∷ []) rows) o ≡ Ok ops
+      by_row : (o : Result Op LoadFault) → row_of s fields (length before + 1) row ≡ o → (o and_then (λ (op : Op). lines_after s fields (before ++ op ∷ []) rows)) ≡ Ok ops
           → ((op : Op) → lines_after s fields (before ++ op ∷ []) rows ≡ Ok ops → Said (before ++ op ∷ []) ops rows) → Said before ops (row ∷ rows)
       by_row (Err bad) o e later = cc e
       by_row (Ok op) o e later =
@@ -387,7 +388,7 @@ pub file-says : (s : Layout) (bytes : List ℕ) (load : Load) → schema_fault s
 file-says s bytes load valid e = by_records (records_of bytes) refl e
   where
     by_lines : (names : List (List ℕ)) (rows : List (List (List ℕ))) (fields : List Field) → records_of bytes ≡ names ∷ rows → fields_after s [] names ≡ Ok fields → missing_from fields 0 s.columns ≡ None
-        → (o : Result (List Op) LoadFault) → lines_after s fields [] rows ≡ o → and_then (whole_load s) o ≡ Ok load → SaysFile s bytes load
+        → (o : Result (List Op) LoadFault) → lines_after s fields [] rows ≡ o → (o and_then whole_load s) ≡ Ok load → SaysFile s bytes load
     by_lines names rows fields r f whole (Err bad) o e = cc e
     by_lines names rows fields r f whole (Ok ops) o e =
         let walk = walked s [] fields names (unfold Apart in tt) f in
@@ -397,12 +398,12 @@ file-says s bytes load valid e = by_records (records_of bytes) refl e
         subst (SaysFile s bytes) is (record { names = names; rows = rows; records = r; lines = subst (SaysRows s names rows) (sym said.ops_are) said.says })
 
     by_missing : (names : List (List ℕ)) (rows : List (List (List ℕ))) (fields : List Field) → records_of bytes ≡ names ∷ rows → fields_after s [] names ≡ Ok fields
-        → (o : Option ℕ) → missing_from fields 0 s.columns ≡ o → and_then (load_of_rows s rows) (unless_missing fields o) ≡ Ok load → SaysFile s bytes load
+        → (o : Option ℕ) → missing_from fields 0 s.columns ≡ o → (unless_missing fields o and_then load_of_rows s rows) ≡ Ok load → SaysFile s bytes load
     by_missing names rows fields r f None m e = by_lines names rows fields r f m (lines_after s fields [] rows) refl e
     by_missing names rows fields r f (Some i) m e = cc e
 
     by_fields : (names : List (List ℕ)) (rows : List (List (List ℕ))) → records_of bytes ≡ names ∷ rows → (o : Result (List Field) LoadFault) → fields_after s [] names ≡ o
-        → and_then (load_of_rows s rows) (and_then (λ (fields : List Field). unless_missing fields (missing_from fields 0 s.columns)) o) ≡ Ok load → SaysFile s bytes load
+        → (o and_then (λ (fields : List Field). unless_missing fields (missing_from fields 0 s.columns)) and_then load_of_rows s rows) ≡ Ok load → SaysFile s bytes load
     by_fields names rows r (Err bad) f e = cc e
     by_fields names rows r (Ok fields) f e = by_missing names rows fields r f (missing_from fields 0 s.columns) refl e
 

@@ -8,11 +8,7 @@ use Rattle.load_csv.specs.declared.loads.LoadFault.{LoadFault}
 use Rattle.load_csv.specs.declared.loads.LoadFault.TheVariants.{UnknownName, NameTwice, Missing}
 use Rattle.load_csv.specs.declared.headers.Field.{Field}
 use Rattle.load_csv.specs.declared.headers.Field.TheVariants as field
-
--- what follows a step that may end in a fault
-abbrev pub and_then : {T U : Type 0} → (T → Result U LoadFault) → Result T LoadFault → Result U LoadFault
-and_then next (Ok x) = next x
-and_then next (Err fault) = Err fault
+use Rattle.load_csv.specs.Results.{◌and_then◌}
 
 -- two fields of a file are both `__op`, or both the column in one place of the table
 abbrev pub is_same : Field → Field → Truth
@@ -37,7 +33,7 @@ new_field before c (Some f) = if list_any (is_same f) before then Err (NameTwice
 -- the fields that names stand for, behind those before them, or the fault of the first name that has one
 abbrev pub fields_after : Layout → List Field → List (List ℕ) → Result (List Field) LoadFault
 fields_after s before [] = Ok before
-fields_after s before (name ∷ names) = and_then (λ f. fields_after s (before ++ f ∷ []) names) (new_field before (length before + 1) (field_named s name))
+fields_after s before (name ∷ names) = new_field before (length before + 1) (field_named s name) and_then (λ f. fields_after s (before ++ f ∷ []) names)
 
 -- the place of the first of these columns that no field stands for; the first of them has place i
 abbrev pub missing_from : List Field → ℕ → List Column → Option ℕ
@@ -54,4 +50,4 @@ with_each_column s fields = unless_missing fields (missing_from fields 0 s.colum
 
 -- what the names of a header stand for, in file order, or the first fault: that of the first name that has one, and then that of the first column which isn't there
 abbrev pub header_of : Layout → List (List ℕ) → Result (List Field) LoadFault
-header_of s names = and_then (with_each_column s) (fields_after s [] names)
+header_of s names = fields_after s [] names and_then with_each_column s

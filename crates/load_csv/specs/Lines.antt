@@ -13,7 +13,7 @@ use Rattle.load_csv.specs.declared.loads.LoadFault.{LoadFault}
 use Rattle.load_csv.specs.declared.loads.LoadFault.TheVariants.{Width, BadOp, BadCell, KeyTooLong}
 use Rattle.load_csv.specs.declared.headers.Field.{Field}
 use Rattle.load_csv.specs.declared.headers.Field.TheVariants as field
-use Rattle.load_csv.specs.Headers.{and_then}
+use Rattle.load_csv.specs.Results.{◌and_then◌}
 
 -- ---- whether a row is a delete
 
@@ -61,7 +61,7 @@ abbrev pub with_fields : Layout → ℕ → Truth → ℕ → List Value → Lis
 with_fields s n delete c cells [] texts = Ok cells
 with_fields s n delete c cells (f ∷ fields) [] = Ok cells
 with_fields s n delete c cells (f ∷ fields) (text ∷ texts) =
-    and_then (λ more. with_fields s n delete (c + 1) more fields texts) (with_field s n delete c cells f text)
+    with_field s n delete c cells f text and_then (λ more. with_fields s n delete (c + 1) more fields texts)
 
 -- a cell for each column, none of which is read yet
 abbrev pub no_cells : Layout → List Value
@@ -93,7 +93,7 @@ line_with s n delete cells = if_short n (length (key_code s (take s.keys cells))
 
 abbrev pub line_told : Layout → List Field → ℕ → Option Truth → List (List ℕ) → Result Op LoadFault
 line_told s fields n None texts = Err (BadOp n)
-line_told s fields n (Some delete) texts = and_then (line_with s n delete) (cells_of s fields n delete texts)
+line_told s fields n (Some delete) texts = cells_of s fields n delete texts and_then line_with s n delete
 
 -- the line that row n is, under a header: its width is judged first, then its `__op`, then its cells, and its key's length last
 abbrev pub line_of : Layout → List Field → ℕ → List (List ℕ) → Result Op LoadFault

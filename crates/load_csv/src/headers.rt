@@ -1,4 +1,4 @@
-ghost use Rattle.std.specs.Prelude.{◌≡◌, ◌≢◌, ◌≤◌, ◌<◌, ◌++◌, ◌∷◌, ◌+◌, ◌^◌, [], IfOk, IfErr, IfSome, OnOk, Ok, Err, None, length, option_map};
+ghost use Rattle.std.specs.Prelude.{◌≡◌, ◌≢◌, ◌≤◌, ◌<◌, ◌++◌, ◌∷◌, ◌+◌, ◌^◌, [], IfOk, IfErr, IfSome, OnOk, Ok, Err, None, length};
 ghost use Rattle.std.specs.List.{list_any};
 ghost use Rattle.csv.specs.Records.{fields_of};
 ghost use Rattle.load_csv.specs.Headers.{field_named, fields_after, header_of, is_same, missing_from, new_field};
@@ -11,7 +11,7 @@ use pk_values::{Schema, place_of_name};
 use std::alloc::Global;
 
 // What a field of a file holds.
-#[derive(Clone, Copy, Debug, PartialEq, Eq)]
+#[derive(Clone, Copy)]
 pub(crate) enum Field {
     // What its row does.
     Op,

@@ -2,27 +2,16 @@
 #![tactic(auto)]
 
 ghost use Rattle.std.specs.Prelude.{◌≡◌, IfOk};
-ghost use Rattle.pktablet.specs.Statuses.{cause_status};
+ghost use Rattle.tablet_run.specs.Statuses.{cause_status};
 
-pub mod causes;
-mod courses;
-mod inputs;
-pub mod runs;
-mod statuses;
-mod streams;
-
-use causes::{Cause, Ended};
 use command_line::text_for;
 use dev_host::{HostInputs, HostSink};
-use runs::run;
 use std::alloc::Global;
 use std::env::Env;
 use std::io::ErrorKind;
 use std::process::ExitCode;
 use std::{env, io};
-
-#[cfg(test)]
-mod tests;
+use tablet_run::{Cause, Ended, run};
 
 // The words after the program's name.
 fn words_after_name(rt: &(impl Env + AllocGlobal)) -> io::Result<Vec<String>> {

@@ -1,17 +1,14 @@
--- Rows that fit a table can be written.
-use Rattle.std.proofs.Common.{◌≡◌, List, [], ◌∷◌, Bool as Truth, true, false, refl, arith}
-use Rattle.std.specs.Prelude.{pos, ℤ, ◌≤ℤ◌, ◌&&◌}
-use Rattle.std.proofs.lemmas.Bool.{false≢true}
+-- Values that fit a table can be written.
+use Rattle.std.proofs.Common.{◌≡◌, true, arith}
+use Rattle.std.specs.Prelude.{pos, ℤ, ◌≤ℤ◌}
 use Rattle.std.proofs.lemmas.Int.{ints}
-use Rattle.std.proofs.lemmas.List.Elements.{All-cons, All-nil}
-use Rattle.pk_values.specs.Fits.{fits, fits_all, fits_kind}
+use Rattle.pk_values.specs.Fits.{fits, fits_kind}
 use Rattle.pk_values.specs.declared.cells.Column.{Column}
 use Rattle.pk_values.specs.declared.cells.Kind.{Kind}
 use Rattle.pk_values.specs.declared.cells.Kind.TheVariants.{Boolean, TinyInt, SmallInt, Int, BigInt, LargeInt, Date, Varchar}
 use Rattle.pk_values.specs.declared.cells.Value.{Value}
 use Rattle.pk_values.specs.declared.cells.Value.TheVariants as value
 use Rattle.cell_text.specs.Texts.{IsWritable}
-use Rattle.script_text.specs.Texts.{IsWritableRow}
 
 day_fits : (d : ℤ) (kind : Kind) → fits_kind kind (value.Day d) ≡ true → (pos 0 ≤ℤ d) × (d ≤ℤ pos 3652424)
 day_fits d Boolean h = cc
@@ -29,14 +26,3 @@ value_writable c (value.Bool b) h = tt
 value_writable c (value.Num n) h = tt
 value_writable c (value.Day d) h = day_fits d c.kind h
 value_writable c (value.Text t) h = tt
-
--- a row with a fitting cell for each column
-pub row_writable : (columns : List Column) (row : List Value) → fits_all columns row ≡ true → IsWritableRow row
-row_writable [] [] h = All-nil IsWritable
-row_writable [] (v ∷ vs) h = cc
-row_writable (c ∷ cs) [] h = cc
-row_writable (c ∷ cs) (v ∷ vs) h = by_test (fits c v) refl h (row_writable cs vs)
-  where
-    by_test : (t : Truth) → fits c v ≡ t → (t && fits_all cs vs) ≡ true → (fits_all cs vs ≡ true → IsWritableRow vs) → IsWritableRow (v ∷ vs)
-    by_test true e both rest = All-cons IsWritable v vs (value_writable c v e) (rest both)
-    by_test false e both rest = absurd (false≢true both)

@@ -7,6 +7,7 @@ use Rattle.pk_model.specs.declared.calls.Want.{Want}
 use Rattle.pk_model.specs.declared.calls.Want.TheVariants.{Latest, At}
 use Rattle.cell_text.specs.Cells.{digits_of, is_word}
 use Rattle.cell_text.specs.Readings.{if_at_most}
+use Rattle.load_csv.specs.Results.{◌and_then◌}
 use Rattle.script_text.specs.declared.lines.Line.{Line}
 use Rattle.script_text.specs.declared.lines.Line.TheVariants.{Skipped, PhaseEnd, Work}
 use Rattle.script_text.specs.declared.scripts.Job.{Job}
@@ -16,12 +17,6 @@ use Rattle.script_text.specs.declared.scripts.Script.{Script}
 use Rattle.script_text.specs.declared.scripts.ScriptCause.{ScriptCause}
 use Rattle.script_text.specs.declared.scripts.ScriptCause.TheVariants.{NoLane, BadLane, NoJob, UnknownJob, BadCount, BadName, BadVersion, ManyJobs}
 use Rattle.script_text.specs.declared.scripts.ScriptFault.{ScriptFault}
-
--- the first fault decides
-infixl 10 ◌and_then◌
-abbrev pub ◌and_then◌ : {A B F : Type 0} → Result A F → (A → Result B F) → Result B F
-Ok x and_then f = f x
-Err fault and_then f = Err fault
 
 -- ---- words
 

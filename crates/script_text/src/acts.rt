@@ -2,7 +2,8 @@ ghost use Rattle.std.specs.Prelude.{◌≡◌, IfOk, Ok};
 ghost use Rattle.std.specs.Bool.{OnTrue};
 ghost use Rattle.std.specs.List.{list_all};
 ghost use Rattle.std.specs.Str.{IsUtf8, is_utf8};
-ghost use Rattle.script_text.specs.Scripts.{◌and_then◌, act_of, file_of, is_file_name, is_printed, job_of, no_word, one_word, version_of, want_of, words_of};
+ghost use Rattle.load_csv.specs.Results.{◌and_then◌};
+ghost use Rattle.script_text.specs.Scripts.{act_of, file_of, is_file_name, is_printed, job_of, no_word, one_word, version_of, want_of, words_of};
 ghost use Rattle.script_text.specs.Answers.{HasTextName, IsTold};
 ghost use Rattle.script_text.specs.declared.scripts.JobAct.TheVariants.{Load, Partial, Scan, Expire};
 

@@ -1,6 +1,6 @@
 ghost use Rattle.std.specs.Prelude.{◌≡◌, ◌≤◌, IfOk};
 ghost use Rattle.script_text.specs.Scripts.{is_wait, lane_number, lane_of, line_of, work_of, words_of};
-ghost use Rattle.script_text.specs.Answers.{HasTextName, IsTold};
+ghost use Rattle.script_text.specs.Answers.{IsTold};
 ghost use Rattle.script_text.specs.Lines.{IsLine};
 
 use crate::acts::read_job;
@@ -9,7 +9,7 @@ use crate::words::{begins_with, next_word};
 use std::alloc::Global;
 
 /// What a line of a script is.
-#[derive(Debug, Drop)]
+#[derive(Drop)]
 pub enum Line {
     /// It has no word, or is a comment.
     Skipped,

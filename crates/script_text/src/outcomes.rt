@@ -4,7 +4,7 @@ use pk_model::Reply;
 use pk_values::Octets;
 
 /// The part of a job that one turn is: the whole of it, its first or its last part, or its giving up.
-#[derive(Clone, Copy, Debug, PartialEq, Eq)]
+#[derive(Clone, Copy)]
 pub enum ItemPart {
     /// A job of one turn: a load, a scan, an expiry or a count.
     Whole,
@@ -17,7 +17,7 @@ pub enum ItemPart {
 }
 
 /// A turn of a job.
-#[derive(Clone, Copy, Debug, PartialEq, Eq)]
+#[derive(Clone, Copy)]
 pub struct Item {
     /// The job's number in its script, from 1.
     pub job: u32,
@@ -26,7 +26,7 @@ pub struct Item {
 }
 
 /// What became of a job.
-#[derive(Debug, Drop)]
+#[derive(Drop)]
 pub enum Outcome {
     /// The reply of its last turn. A `Closed` tells the position in the order, from 1, of the item that closed the state.
     Turn(Reply),

@@ -3,7 +3,7 @@ use pk_values::{Items, Octets};
 use thiserror::Error;
 
 /// What a job does.
-#[derive(Debug, Drop)]
+#[derive(Drop)]
 pub enum JobAct {
     /// `load FILE`: loads a file of whole rows, of this name.
     Load(Octets),
@@ -20,7 +20,7 @@ pub enum JobAct {
 }
 
 /// A job of a script.
-#[derive(Debug, Drop)]
+#[derive(Drop)]
 pub struct Job {
     /// The lane that does it, from 1 to 8.
     pub lane: u32,
@@ -31,7 +31,7 @@ pub struct Job {
 }
 
 /// The jobs of a script in the order of their lines, at most 4,096.
-#[derive(Debug, Drop)]
+#[derive(Drop)]
 pub struct Script {
     /// The jobs, which are numbered from 1 in this order.
     pub jobs: Items<Job>,
@@ -70,7 +70,7 @@ pub enum ScriptCause {
 }
 
 /// The first line of a script that is wrong.
-#[derive(Clone, Copy, Debug, PartialEq, Eq, Error)]
+#[derive(Clone, Copy, Debug, Error)]
 #[error("line {line}: {cause}")]
 pub struct ScriptFault {
     /// The line's number, counted from 1 with empty lines and comments; 0 for want of memory.

@@ -1,0 +1,12 @@
+//! A run: the words, a table, a script and load files come in, and the report of the script's jobs goes out.
+#![tactic(auto)]
+
+mod causes;
+mod courses;
+mod inputs;
+mod runs;
+mod statuses;
+mod streams;
+
+pub use causes::{Cause, Ended};
+pub use runs::run;
