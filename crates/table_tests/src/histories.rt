@@ -1,5 +1,3 @@
-ghost use Rattle.std.specs.Prelude.{◌≡◌, ◌<◌, ◌^◌};
-
 use crate::columns::{column, is_text, number_in};
 use crate::scripts::is_reported;
 use pk_model::{Book, Call, Load, Op, Want, step};
