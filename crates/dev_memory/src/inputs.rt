@@ -121,7 +121,8 @@ fn open(alloc: Global, bytes: &[u8], fails: &[u64], takes: u64) -> Result<MemSou
 }
 
 impl Inputs for MemInputs {
-    ghost use Rattle.std.specs.Prelude.{Some};
+    ghost use Rattle.std.specs.Prelude.{Some, IsSome};
+    ghost use Rattle.std.specs.FinMap.{get};
     ghost use Rattle.dev_memory.specs.Inputs.{files_of, faults_of, takes_of, fails_of, left_of, source_faults, source_takes, NumberedOn};
 
     type Src = MemSource;
@@ -135,6 +136,7 @@ impl Inputs for MemInputs {
         ensures found { Asks (λ src. Some (left_of src)) source_faults (Some (files_of self.old)) name.now result }
         ensures cause { AskCause (faults_of self.old) (faults_of self.new) result }
         ensures exactly { result ≡ Asked.Failed ↔ Contains (fails_of self.old) 0 }
+        ensures memory { result ≡ Asked.Memory → IsSome (get (files_of self.old) name.now) }
         ensures numbered { NumberedOn self.old result }
         ensures takes { takes_of self.new ≡ takes_of self.old }
         ensures fails { fails_of self.new ≡ fails_of self.old }

@@ -1,4 +1,4 @@
-ghost use Rattle.std.specs.Prelude.{◌≡◌, ◌^◌, ◌+◌, ◌≤◌, ◌<◌, None, true, length, map, take, drop, IfOk, IsErrOf, OnErr, IsTrue, IsFalse, refl};
+ghost use Rattle.std.specs.Prelude.{◌≡◌, ◌^◌, ◌+◌, ◌≤◌, ◌<◌, None, true, length, map, take, drop, IfOk, IsErrOf, IsSome, OnErr, IsTrue, IsFalse, refl};
 ghost use Rattle.std.specs.Ordering.{nat_cmp};
 ghost use Rattle.std.specs.FinMap.Entries.{find};
 ghost use Rattle.std.specs.List.{list_all};
@@ -51,6 +51,7 @@ fn open_number(kept: &Kept, number: u64, fails: &Listed) -> Result<MemReader, De
     ensures listed { IfOk result (made.ListsFrom (arc_value fails.now).items) }
     ensures absent { IsErrOf result DevError.Absent → find nat_cmp number (entries_at (length kept.now.held.deeds) kept.now.held.files) ≡ None }
     ensures never_failed { ¬ IsErrOf result DevError.Failed }
+    ensures memory { IsErrOf result DevError.Memory → IsSome (find nat_cmp number (entries_at (length kept.now.held.deeds) kept.now.held.files)) }
 {
     match kept.file(number) {
         None => Err(DevError::Absent),
@@ -70,7 +71,7 @@ fn copy_from(bytes: &[u8], at: u64, into: &mut [u8])
 }
 
 impl Store for MemStore {
-    ghost use Rattle.std.specs.Prelude.{◌-◌, ◌∷◌, [], min, ℕ, List, true, false, Some, IsSome, OnOk};
+    ghost use Rattle.std.specs.Prelude.{◌-◌, ◌∷◌, [], min, ℕ, List, true, false, Some, OnOk};
     ghost use Rattle.std.specs.Option.{option_map};
     ghost use Rattle.dev_traits.specs.Causes.{HasCause, HasDevCause};
     ghost use Rattle.dev_traits.specs.Image.{area_of, file, overwritten, with_area, with_file, with_files_of, Same, TornIn, Blanked, Forgets, ForgetsSome};
@@ -266,6 +267,7 @@ impl Store for MemStore {
         ensures listed { IfOk result (made.ListsFrom (reader_fails_of self.old)) }
         ensures there { IfOk result (λ _. Told (view_of self.old) (λ image. IsSome (file image number))) }
         ensures absent { Told (view_of self.old) (λ image. IsErrOf result DevError.Absent → file image number ≡ None) }
+        ensures memory { Told (view_of self.old) (λ image. IsErrOf result DevError.Memory → IsSome (file image number)) }
         ensures calm { Calm (view_of self.old) (view_of self.new) }
         ensures cause { HasDevCause (view_of self.old).faults (view_of self.new).faults result }
         ensures kept { held_of self.new ≡ held_of self.old }

@@ -20,3 +20,6 @@ returns-clause-there c = if_ok c.open_number.result _ _ c.open_number.ensures.fo
 
 pub returns-clause-absent : goal.returns-clause-absent
 returns-clause-absent c image told is = file_read c.args.self.now.kept.held c.args.number image told ∙ c.open_number.ensures.absent is
+
+pub returns-clause-memory : goal.returns-clause-memory
+returns-clause-memory c image told is = subst (λ (o : Option (List ℕ)). IsSome o) (sym (file_read c.args.self.now.kept.held c.args.number image told)) (c.open_number.ensures.memory is)
