@@ -2,8 +2,10 @@ use crate::stores::{made, reads_from, write_since_a_sync};
 use crate::streams::{gives, puts};
 use dev_host::{HostInputs, HostReader, HostSink, HostStore};
 use dev_traits::{Asked, DevError, FileMaker, Inputs, Store};
-use std::fs;
+use std::fmt::Display;
+use std::io::Print;
 use std::test::Fail;
+use std::{fs, io};
 
 #[test]
 fn reads_a_file(rt: HostRuntime) -> Result<(), Fail> {
@@ -23,6 +25,35 @@ fn reads_a_file(rt: HostRuntime) -> Result<(), Fail> {
 fn writes_to_standard_output(rt: HostRuntime) -> Result<(), Fail> {
     let mut sink = HostSink::new(rt.clone()?);
     assert!(rt; puts(&mut sink, b"put\n", Some(4)));
+    Ok(())
+}
+
+// A standard output that takes one byte at a time.
+#[derive(Drop)]
+struct Slow;
+
+impl Print for Slow {
+    fn print<D: Display + Drop>(&self, _value: D) -> io::Result<()> {
+        Ok(())
+    }
+
+    fn println<D: Display + Drop>(&self, _value: D) -> io::Result<()> {
+        Ok(())
+    }
+
+    fn write_all(&self, _bytes: &[u8]) -> io::Result<()> {
+        Ok(())
+    }
+
+    fn write_some(&self, bytes: &[u8]) -> io::Result<usize> {
+        Ok(bytes.len().min(1))
+    }
+}
+
+#[test]
+fn a_sink_tells_how_much_was_taken(rt: HostRuntime) -> Result<(), Fail> {
+    let mut sink = HostSink::new(Slow);
+    assert!(rt; puts(&mut sink, b"put\n", Some(1)));
     Ok(())
 }
 
@@ -112,5 +143,38 @@ fn sweeps_what_is_forgotten_and_what_is_not_adopted(rt: HostRuntime) -> Result<(
     assert!(rt; !is_there(&rt, "swept/f7") && !is_there(&rt, "swept/m3-0"));
     let mut again = HostStore::new(rt.clone()?, "swept")?;
     assert!(rt; matches!(again.reader(7), Err(DevError::Absent)) && again.reader(9).is_ok());
+    Ok(())
+}
+
+#[test]
+fn a_maker_makes_one_file_after_another(rt: HostRuntime) -> Result<(), Fail> {
+    let mut store = HostStore::new(rt.clone()?, "two")?;
+    let mut maker = store.maker()?;
+    let first = made(&mut maker, b"fi", b"rst");
+    let second = made(&mut maker, b"n", b"ext");
+    store.give_back(maker);
+    let (Ok(first), Ok(second)) = (first, second) else {
+        assert!(rt; false);
+        return Ok(());
+    };
+    let (Ok(mut first), Ok(mut second)) = (store.adopt(1, first), store.adopt(2, second)) else {
+        assert!(rt; false);
+        return Ok(());
+    };
+    assert!(rt; reads_from(&mut first, 0, b"first") && reads_from(&mut second, 0, b"next"));
+    Ok(())
+}
+
+// What can't be opened isn't absent.
+#[test]
+fn a_file_in_the_place_of_the_folder_is_a_fault(rt: HostRuntime) -> Result<(), Fail> {
+    fs::write(&rt, "plain", b"x".as_slice())?;
+    let mut inputs = HostInputs::new(rt.clone()?);
+    assert!(rt; matches!(inputs.ask(rt.alloc(), "plain/x"), Asked::Failed));
+    let mut store = HostStore::new(rt.clone()?, "plain")?;
+    assert!(rt; store.length(0).is_err() && store.sync(0).is_err());
+    assert!(rt; matches!(store.reader(7), Err(DevError::Failed)));
+    assert!(rt; store.forget_others(&[]).is_err());
+    assert_eq!(rt; store.faults(), 4);
     Ok(())
 }
