@@ -1,5 +1,5 @@
 -- What a reader of a segment's file finds.
-use Rattle.std.proofs.Common.{◌≡◌, ℕ, List, length, refl, sym, ap, ◌∙◌, subst, Some, None, Err, IfErr, IsSome, Option, Result}
+use Rattle.std.proofs.Common.{◌≡◌, ◌⊎◌, inl, inr, ℕ, List, length, refl, sym, ap, ◌∙◌, subst, Some, None, Err, IfErr, IsSome, Option, Result}
 use Rattle.std.proofs.lemmas.Bool.{false≢true}
 use Rattle.pk_values.specs.Schemas.{Layout, schema_fault}
 use Rattle.pk_values.specs.declared.cells.Value.{Value}
@@ -7,7 +7,9 @@ use Rattle.column_page.specs.declared.footers.Footer.{Footer}
 use Rattle.dev_traits.specs.Reader.{ReaderView}
 use Rattle.dev_traits.specs.declared.faults.Damaged.{Damaged}
 use Rattle.dev_traits.specs.declared.faults.Part.{Part}
+use Rattle.dev_traits.specs.declared.faults.Part.TheVariants as part
 use Rattle.dev_traits.specs.declared.faults.ReadFault.{ReadFault}
+use Rattle.dev_traits.specs.declared.faults.Shown.{Shown}
 use Rattle.dev_traits.specs.declared.faults.ReadFault.TheVariants as read
 use Rattle.segment_form.specs.Segments.{footer_of, segment_file, AreSegmentRows}
 use Rattle.segment_form.proofs.Blocks.{segment_footer_fits, segment_is_footer}
@@ -53,6 +55,22 @@ pub footer_undamaged : {T : Type 0} (result : Result T ReadFault) (damaged : Dam
 footer_undamaged result damaged s rows number part reader lawful are shown failed file told is =
     let damage = damage_told result damaged (IsDamage number part (λ shown. Told reader (λ file. FooterShown s file shown))) shown failed in
     no_footer_damage s (footer_of s rows) (segment_file s rows) damaged.shown (its_footer s rows lawful are) (damage.shows (segment_file s rows) (told ∙ ap Some is))
+
+-- damage is told of the file that was read, at its footer or at one of its blocks
+abbrev pub IsToldOf : ℕ → Damaged → Type 0
+IsToldOf number damaged = (damaged.file ≡ number) × ((damaged.part ≡ part.Footer) ⊎ ((b : ℕ) × (damaged.part ≡ part.Block b)))
+
+pub rows_place : {T : Type 0} (result : Result T ReadFault) (damaged : Damaged) (s : Layout) (number segment : ℕ) (now : ReaderView) (footer : Footer) → segment ≡ number
+    → IfErr result (λ e. OnDamage e (IsRowsDamage s footer segment now)) → result ≡ Err (read.Damaged damaged) → IsToldOf number damaged
+rows_place result damaged s number segment now footer same shown failed =
+    let damage = damage_told result damaged (IsRowsDamage s footer segment now) shown failed in
+    (damage.file_is ∙ same, inr (damage.block, damage.part_is))
+
+pub footer_place : {T : Type 0} (result : Result T ReadFault) (damaged : Damaged) (number : ℕ) (Shows : Shown → Type 0)
+    → IfErr result (λ e. OnDamage e (IsDamage number part.Footer Shows)) → result ≡ Err (read.Damaged damaged) → IsToldOf number damaged
+footer_place result damaged number Shows shown failed =
+    let damage = damage_told result damaged (IsDamage number part.Footer Shows) shown failed in
+    (damage.file_is, inl damage.part_is)
 
 -- the bytes that a sealed file tells
 pub sealed_is : (bytes : Option (List ℕ)) (file : List ℕ) → ((found : List ℕ) → bytes ≡ Some found → found ≡ file) → IsSome bytes → bytes ≡ Some file

@@ -5,6 +5,7 @@ ghost use Rattle.dev_traits.specs.View.{Calm, EachImage, Leaves, Spends, Told};
 ghost use Rattle.dev_traits.specs.Reader.{IsNew};
 ghost use Rattle.dev_traits.specs.declared.faults.Damaged.{Damaged};
 ghost use Rattle.dev_traits.specs.declared.faults.OutsideFault.TheVariants as outside;
+ghost use Rattle.dev_traits.specs.declared.faults.Part.TheVariants as part;
 ghost use Rattle.dev_traits.specs.declared.faults.ReadFault.TheVariants as read;
 ghost use Rattle.segment_form.specs.Segments.{AreSegmentRows, segment_file};
 ghost use Rattle.segment_read.specs.Reads.{Told as FileTold};
@@ -71,6 +72,7 @@ fn read_rows<R: SealedReader>(
     requires { AreSegmentRows schema.now _rows.now }
     ensures same { IfOk result.1 (λ found. FileTold (R.view reader) (λ file. file ≡ segment_file schema.now _rows.now → found.items ≡ _rows.now)) }
     ensures damage { (damaged : Damaged) → IsErrOf result.1 (read.Damaged damaged) → FileTold (R.view reader) (λ file. file ≢ segment_file schema.now _rows.now) }
+    ensures place { (damaged : Damaged) → IsErrOf result.1 (read.Damaged damaged) → (damaged.file ≡ number) × ((damaged.part ≡ part.Footer) ⊎ ((b : ℕ) × (damaged.part ≡ part.Block b))) }
     ensures cause { HasReadCause (R.view reader).faults (R.view result.0).faults result.1 }
 {
     // No schema has a fault.
@@ -92,8 +94,8 @@ fn read_rows<R: SealedReader>(
 ///
 /// # Errors
 /// `Fault` exactly where the store, its maker or its reader failed, which the store counted once.
-/// `Damaged` only where the store doesn't tell its bytes. `Memory`. After an error the store has the
-/// file or doesn't, and all else is as it was.
+/// `Damaged`, of the footer or of a block of this file, only where the store doesn't tell its bytes.
+/// `Memory`. After an error the store has the file or doesn't, and all else is as it was.
 pub fn write_and_read<S: Store>(
     alloc: Global,
     store: &mut S,
@@ -112,6 +114,9 @@ pub fn write_and_read<S: Store>(
     // After an error the store has the file or doesn't, and all else is as it was.
     ensures left { OnErr result (Told (S.view store.old) (λ image. ((S.view store.new).seen ≡ Some image) ⊎ ((S.view store.new).seen ≡ Some (with_file number (segment_file schema.now rows.now) image)))) }
     ensures damage { (damaged : Damaged) → IsErrOf result (outside.Damaged damaged) → (S.view store.old).seen ≡ None }
+
+    // It is told of this file, at its footer or at one of its blocks.
+    ensures place { (damaged : Damaged) → IsErrOf result (outside.Damaged damaged) → (damaged.file ≡ number) × ((damaged.part ≡ part.Footer) ⊎ ((b : ℕ) × (damaged.part ≡ part.Block b))) }
     ensures spends { Spends 1 0 (S.view store.old) (S.view store.new) }
     ensures crash { Leaves Same (S.view store.old) (S.view store.new) }
     ensures cause { HasOutsideCause (S.view store.old).faults (S.view store.new).faults result }
