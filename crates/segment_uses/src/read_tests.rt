@@ -179,6 +179,24 @@ fn a_footer_of_another_table_is_damaged_in_its_form(rt: HostRuntime) -> Result<(
     Ok(())
 }
 
+// The digest of no byte, and the length of both.
+fn tail_of_no_byte() -> &'static [u8] {
+    b"\xe3\xb0\xc4\x42\x98\xfc\x1c\x14\x9a\xfb\xf4\xc8\x99\x6f\xb9\x24\
+    \x27\xae\x41\xe4\x64\x9b\x93\x4c\xa4\x95\x99\x1b\x78\x52\xb8\x55\
+    \x00\x00\x00\x20"
+}
+
+#[test]
+fn a_tail_with_its_digest_that_is_no_footer_is_damaged_in_its_form(
+    rt: HostRuntime,
+) -> Result<(), Fail> {
+    let alloc = rt.alloc();
+    let schema = table(&rt, alloc)?;
+    let damaged = damage_in(&rt, alloc, &schema, tail_of_no_byte())?.expect(&rt, "damage");
+    assert!(rt; damaged.part == Part::Footer && damaged.shown == Shown::Form);
+    Ok(())
+}
+
 // How many faults the reader counted, where attaching its file tells one.
 fn faults_of<R: SealedReader>(alloc: Global, schema: &Schema, reader: R) -> Option<u64> {
     match attach(alloc, schema, 2, reader) {
