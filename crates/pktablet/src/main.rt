@@ -1,8 +1,10 @@
 //! One tablet of a primary key table, run by a script of jobs.
 #![tactic(auto)]
 
-ghost use Rattle.std.specs.Prelude.{◌≡◌, IfOk};
+ghost use Rattle.std.specs.Prelude.{◌≡◌, ◌↔◌, IfOk, Ok, Some, None, map, option_map, string_bytes, true, false};
+ghost use Rattle.std.specs.Process.{exit_status};
 ghost use Rattle.tablet_run.specs.Statuses.{cause_status};
+ghost use Rattle.pktablet.specs.Told.{asks_alone, file_told};
 
 use command_line::text_for;
 use dev_host::{HostInputs, HostSink};
@@ -23,7 +25,9 @@ fn words_after_name(rt: &(impl Env + AllocGlobal)) -> io::Result<Vec<String>> {
 }
 
 // Prints what a single word asks for, help or the version, and tells whether it did.
-fn answer_word(rt: &HostRuntime, words: &[String]) -> io::Result<bool> {
+fn answer_word(rt: &HostRuntime, words: &[String]) -> io::Result<bool>
+    ensures { IfOk result (λ did. did ≡ asks_alone (map string_bytes words.now)) }
+{
     let alloc: Global = rt.alloc();
     let [word] = words else {
         return Ok(false);
@@ -66,7 +70,9 @@ fn not_begun(error: &io::Error) -> Ended
 }
 
 // The file that a cause speaks of, where it is the table or the script.
-fn file_of<'a>(cause: &Cause, words: &'a [String]) -> Option<&'a str> {
+fn file_of<'a>(cause: &Cause, words: &'a [String]) -> Option<&'a str>
+    ensures { option_map (λ file. file.now) result ≡ file_told cause.now (map string_bytes words.now) }
+{
     let [_, table, script] = words else {
         return None;
     };
@@ -88,7 +94,10 @@ fn explain(rt: &HostRuntime, cause: &Cause, words: &[String]) {
 }
 
 // How printing what a word asks for ended.
-fn printed(answered: io::Result<bool>) -> Option<Cause> {
+fn printed(answered: io::Result<bool>) -> Option<Cause>
+    ensures done { answered ≡ Ok true ↔ result ≡ Some Cause.None }
+    ensures unasked { answered ≡ Ok false ↔ result ≡ None }
+{
     match answered {
         Ok(true) => Some(Cause::None),
         Ok(false) => None,
@@ -115,13 +124,20 @@ fn attempt(rt: &HostRuntime, words: &[String]) -> Ended
     }
 }
 
+// Explains why a run went wrong, and gives the exit status that it has.
+fn end(rt: &HostRuntime, ended: &Ended, words: &[String]) -> ExitCode
+    ensures { exit_status result ≡ ended.now.status }
+{
+    if ended.status > 1 {
+        explain(rt, &ended.cause, words);
+    }
+    ExitCode::from(ended.status)
+}
+
 fn main(rt: HostRuntime) -> io::Result<ExitCode> {
     let (ended, words) = match words_after_name(&rt) {
         Ok(words) => (attempt(&rt, &words), words),
         Err(error) => (not_begun(&error), Vec::new(rt.alloc())),
     };
-    if ended.status > 1 {
-        explain(&rt, &ended.cause, &words);
-    }
-    Ok(ExitCode::from(ended.status))
+    Ok(end(&rt, &ended, &words))
 }
