@@ -63,7 +63,7 @@ fn sealed(alloc: Global, bytes: Vec<u8>, fails: &Listed) -> Result<MemSealed, Me
 }
 
 impl FileMaker for MemMaker {
-    ghost use Rattle.std.specs.Prelude.{◌+◌, ◌<◌, is_some, OnOk, OnErr, IsErrOf};
+    ghost use Rattle.std.specs.Prelude.{◌+◌, ◌<◌, is_some, OnOk, OnErr, IsErrOf, IsFalse};
     ghost use Rattle.std.specs.Option.{option_map};
     ghost use Rattle.dev_traits.specs.Causes.{HasDevCause};
     ghost use Rattle.dev_memory.specs.Maker.{maker_view, made_len, reader_fails_of, sealed_fails_of, FailsOnly, SameFile, HasNoFile};
@@ -122,6 +122,7 @@ impl FileMaker for MemMaker {
     fn seal(&mut self) -> Result<MemSealed, DevError>
         requires { IsTrue (maker_view self.old).is_started }
         ensures sealed { IfOk result (λ sealed. Some sealed.file ≡ (maker_view self.old).made) }
+        ensures closed { OnOk result (IsFalse (maker_view self.new).is_started) }
         ensures tells { is_some (maker_view self.new).made ≡ is_some (maker_view self.old).made }
         ensures never_absent { ¬ IsErrOf result DevError.Absent }
         ensures cause { HasDevCause (maker_view self.old).faults (maker_view self.new).faults result }

@@ -1,4 +1,4 @@
-ghost use Rattle.std.specs.Prelude.{◌≡◌, ℕ, List, Some, IfOk, IsTrue, is_some, length};
+ghost use Rattle.std.specs.Prelude.{◌≡◌, ℕ, List, Some, IfOk, OnOk, IsTrue, IsFalse, is_some, length};
 ghost use Rattle.column_page.specs.FooterReading.{FooterFits};
 ghost use Rattle.column_page.specs.Footers.{is_footer};
 ghost use Rattle.segment_form.specs.Segments.{AreSegmentRows, block_marks, blocks_of, footer_of, segment_file, tail_of};
@@ -69,6 +69,9 @@ pub fn write_segment<M: FileMaker>(
     // The footer can be read back.
     ensures fits { IfOk result (λ made. FooterFits made.footer) }
     ensures is_footer { IfOk result (λ made. IsTrue (is_footer made.footer)) }
+
+    // The maker has no file under way.
+    ensures closed { OnOk result (IsFalse (M.view maker.new).is_started) }
 
     ensures tells { is_some (M.view maker.new).made ≡ is_some (M.view maker.old).made }
     ensures cause { HasMakeCause (M.view maker.old).faults (M.view maker.new).faults result }
