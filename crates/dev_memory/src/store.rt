@@ -1,4 +1,4 @@
-ghost use Rattle.std.specs.Prelude.{◌≡◌, ◌^◌, ◌+◌, ◌≤◌, ◌<◌, None, true, length, map, take, drop, IfOk, IsErrOf, IsSome, OnErr, IsTrue, IsFalse, refl};
+ghost use Rattle.std.specs.Prelude.{◌≡◌, ◌^◌, ◌+◌, ◌≤◌, ◌<◌, None, true, length, map, take, drop, IfOk, IsErrOf, IsSome, OnErr, IsFalse, refl};
 ghost use Rattle.std.specs.Ordering.{nat_cmp};
 ghost use Rattle.std.specs.FinMap.Entries.{find};
 ghost use Rattle.std.specs.List.{list_all};
