@@ -1,7 +1,7 @@
 //! One tablet of a primary key table, run by a script of jobs.
 #![tactic(auto)]
 
-ghost use Rattle.std.specs.Prelude.{◌≡◌, ◌↔◌, IfOk, Ok, Some, None, map, option_map, string_bytes, true, false};
+ghost use Rattle.std.specs.Prelude.{◌≡◌, ◌↔◌, ◌⊎◌, IfOk, Ok, Some, None, map, option_map, string_bytes, true, false};
 ghost use Rattle.std.specs.Process.{exit_status};
 ghost use Rattle.tablet_run.specs.Statuses.{cause_status};
 ghost use Rattle.pktablet.specs.Told.{asks_alone, file_told};
@@ -58,6 +58,7 @@ fn run_on_host(rt: &HostRuntime, words: &[String]) -> io::Result<Ended>
 // How a run ended that did not come to its words.
 fn not_begun(error: &io::Error) -> Ended
     ensures status { result.status ≡ cause_status result.cause }
+    ensures told { (result.cause ≡ Cause.Memory) ⊎ (result.cause ≡ Cause.Words) }
 {
     let cause = match error.kind() {
         ErrorKind::OutOfMemory => Cause::Memory,
