@@ -12,7 +12,7 @@ use Rattle.dev_traits.specs.declared.faults.ReadFault.{ReadFault}
 use Rattle.dev_traits.specs.declared.faults.Shown.{Shown}
 use Rattle.dev_traits.specs.declared.faults.ReadFault.TheVariants as read
 use Rattle.segment_form.specs.Segments.{footer_of, segment_file, AreSegmentRows}
-use Rattle.segment_form.proofs.Blocks.{segment_footer_fits, segment_is_footer}
+use Rattle.segment_form.proofs.Blocks.{segment_footer_is}
 use Rattle.segment_read.specs.Footers.{FooterShown, HasFooter}
 use Rattle.segment_read.specs.Reads.{IsDamage, OnDamage, Told}
 use Rattle.segment_read.specs.Rows.{AreRowsBefore, IsRowsDamage}
@@ -22,7 +22,7 @@ use Rattle.segment_uses.proofs.SameRows.{same_rows}
 
 -- the file of the rows has their footer
 its_footer : (s : Layout) (rows : List (List Value)) → schema_fault s.columns s.keys ≡ None → AreSegmentRows s rows → HasFooter s (footer_of s rows) (segment_file s rows)
-its_footer s rows lawful are = has_its_footer s rows (segment_footer_fits s rows lawful are) (segment_is_footer s rows lawful are)
+its_footer s rows lawful are = has_its_footer s rows (segment_footer_is s rows lawful are)
 
 -- a footer that was read, with which a file has no other
 abbrev pub OnlyFooter : Layout → ReaderView → Footer → Type 0
