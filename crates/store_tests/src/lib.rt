@@ -1,18 +1,9 @@
-//! Tests of the outside in memory and on the host, and of the gated log over the store in memory: what is kept and written, what crashes leave,
-//! and what faults answer.
+//! Tests of the outside on the host: files, standard output, and a store in a folder.
 #![tactic(auto)]
 
 #[cfg(test)]
-mod faults;
-#[cfg(test)]
 mod host;
-#[cfg(test)]
-mod logs;
-#[cfg(test)]
-mod memory;
 #[cfg(test)]
 mod stores;
 #[cfg(test)]
 mod streams;
-#[cfg(test)]
-mod tests;
