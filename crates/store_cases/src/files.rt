@@ -200,8 +200,9 @@ impl Files {
         }
     }
 
-    /// `kept NUMBER MAKER READER`: writes the rows as a file of a new store and reads them back, where a call of the maker and
-    /// one of the reader fail, and tells which of the files of this number and the one before are there, and the faults.
+    /// `kept NUMBER MAKER READER`: writes the rows as a file of a new store and reads them back, where a call of
+    /// the maker and one of the reader fail, and tells which of the files of this number and the one before are
+    /// there, and the faults.
     pub fn kept(&self, alloc: Global, words: &str) -> Result<String, AllocError> {
         let (name, rest) = words.split_once(' ').unwrap_or((words, ""));
         let (maker, reader) = rest.split_once(' ').unwrap_or((rest, ""));

@@ -158,8 +158,9 @@ fn goes_on(alloc: Global, store: &mut MemStore, added: usize) -> Result<bool, Lo
     Ok(are_first_or_one_more(&found, added))
 }
 
-/// `listed CALL`: where a call of a store fails, how many faults it counted, whether fewer than three bodies were added,
-/// whether each crash leaves these or one more, and whether the log has these or one more and goes on.
+/// `listed CALL`: where a call of a store fails, how many faults it counted, whether fewer than three bodies
+/// were added, whether each crash leaves these or one more, and whether the log has these or one more and
+/// goes on.
 pub fn listed(alloc: Global, words: &str) -> Result<String, AllocError> {
     let mut fails = Vec::new(alloc);
     fails.push(words.parse::<u64>().unwrap_or(0))?;

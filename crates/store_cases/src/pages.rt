@@ -29,7 +29,8 @@ fn page_of(alloc: Global, column: &Column, words: &str) -> Result<String, AllocE
     hex_of(alloc, encode_page(alloc, column, &cells)?.as_slice())
 }
 
-/// `page int VALUES` and `page text VALUES`: the page of cells of an INT column, and of a VARCHAR(4) one that takes NULL.
+/// `page int VALUES` and `page text VALUES`: the page of cells of an INT column, and of a VARCHAR(4) one that
+/// takes NULL.
 pub fn page(alloc: Global, words: &str) -> Result<String, AllocError> {
     match words.split_once(' ') {
         Some(("int", words)) => page_of(

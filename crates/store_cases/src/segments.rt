@@ -119,8 +119,8 @@ fn reads_text<R: SealedReader>(
     format!(in alloc; "{row} / {block} / {all}")
 }
 
-/// `open FAILS footer`, `open FAILS copy` and `open FAILS rows`: attaches the file, of which the listed reads fail, and tells
-/// what its footer tells, what a copy does, or its first row, its first block and all rows.
+/// `open FAILS footer`, `open FAILS copy` and `open FAILS rows`: attaches the file, of which the listed reads
+/// fail, and tells what its footer tells, what a copy does, or its first row, its first block and all rows.
 pub fn open(alloc: Global, files: &Files, words: &str) -> Result<String, AllocError> {
     let (fails, what) = words.split_once(' ').unwrap_or((words, ""));
     let reader = reader_of(alloc, &files.bytes, numbers(alloc, fails)?)?;

@@ -85,7 +85,8 @@ impl Runs {
         Ok(MemInputs::new(files, fails))
     }
 
-    /// `run WORDS`: the status of a run of these words over the inputs, and what was put into a sink that takes four bytes a put.
+    /// `run WORDS`: the status of a run of these words over the inputs, and what was put into a sink that
+    /// takes four bytes a put.
     pub fn run(&mut self, alloc: Global, words: &str) -> Result<String, AllocError> {
         let words: Vec<&str> = words.split(' ').collect(alloc)?;
         let mut inputs = self.inputs(alloc)?;
