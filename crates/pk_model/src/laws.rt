@@ -1,6 +1,7 @@
 //! What holds of every load, book and history: functions that do nothing, each of which a clause gives its law.
 ghost use Rattle.pk_model.specs.Books.{new_book, FewVersions};
 ghost use Rattle.pk_model.specs.Laws.{CarriedCells, ClosedStays, CurrentRows, DeletedThenNew, ElseOnlyTakes, EndLeavesRows, ExpiryDrops, ExpiryKeepsVersion, FewStay, KeysRise, LastLineActs, LawfulKeepsKeys, LegalGoesOn, LoadMakesOne, NewVersion, NumbersAreFew, OlderStay, OpensKept, OneResultPerKey, OtherCells, OtherKeys, PrefixIsLegal, RefusalsLeave, ReplayGoesOn, RowsTellKeys, WriteLeavesRow};
+ghost use Rattle.pk_model.specs.Tasks.{EachCallHasTask, OthersAreAsWide, TaskRepliesMayCome, TasksAreNarrower};
 
 /// A load line by line gives each key the result of its own lines.
 pub fn one_result_per_key()
@@ -59,4 +60,12 @@ pub fn numbers()
     ensures new_book { FewVersions new_book }
     ensures few_versions { FewStay }
     ensures counts { NumbersAreFew }
+{}
+
+/// What calls are made for, and which replies of a device come there.
+pub fn tasks_of_calls()
+    ensures each { EachCallHasTask }
+    ensures narrower { TasksAreNarrower }
+    ensures others { OthersAreAsWide }
+    ensures replies { TaskRepliesMayCome }
 {}
