@@ -15,7 +15,7 @@ pub returns-then-pick-eq0-clause-short : goal.returns-then-pick-eq0-clause-short
 returns-then-pick-eq0-clause-short c = if_ok c.from_slice.result _ _ c.from_slice.ensures (λ left is. omega (arith, ap length is, c.area.ensures.short))
 
 pub area_left-requires-clause-short : goal.area_left-requires-clause-short
-area_left-requires-clause-short c = omega (arith, short-at c.self.inside.start.items c.args.area c.index.result.now c.self.invariant.short (omega (arith, c.self.invariant.valid.three, c.requires)) c.index.ensures, ap length c.as_slice-start.ensures)
+area_left-requires-clause-short c = omega (arith, short-at c.self.inside.start.items c.args.area c.index.result.now c.self.invariant.valid.short (omega (arith, c.self.invariant.valid.three, c.requires)) c.index.ensures, ap length c.as_slice-start.ensures)
 
 pub returns-clause-left : goal.returns-clause-left
 returns-clause-left c =
