@@ -18,7 +18,7 @@ use Rattle.pk_model.specs.declared.calls.Load.{Load}
 use Rattle.pk_model.specs.declared.calls.Op.{Op}
 use Rattle.pk_model.specs.declared.calls.Op.TheVariants.{Upsert, Delete}
 use Rattle.pk_model.specs.Laws.{row_after, result_for}
-use Rattle.pk_model.specs.Lawful.{HasShortKey, most_bytes, rise_within, fits_line, fits_given}
+use Rattle.pk_model.specs.Lawful.{HasShortKey, most_code_bytes, rise_within, fits_line, fits_given}
 use Rattle.pk_model.specs.Tables.{Rows, after, touches, writes, key_named, with_cells, new_row, default_cell}
 use Rattle.pk_model.proofs.LoadLaws.{one_result_per_key}
 use Rattle.pk_model.proofs.WriteLaws.{unnamed, wrote, held}
@@ -68,18 +68,18 @@ live_rows_fit s rows m stands fit = record {
 }
 
 -- a key that lines name has a short code, where each of them names one that has
-short_named : (s : Layout) (ops : List Op) (k : List Value) → All (HasShortKey s) ops → is_among (touches ops) k ≡ true → length (key_code s k) ≤ most_bytes
+short_named : (s : Layout) (ops : List Op) (k : List Value) → All (HasShortKey s) ops → is_among (touches ops) k ≡ true → length (key_code s k) ≤ most_code_bytes
 short_named s [] k short e = cc
 short_named s (op ∷ ops) k short e = go (eq_by_cmp key_cmp k (key_named op)) refl (λ f. short_named s ops k (λ i d lt. short (suc i) d (omega arith)) f)
   where
-    go : (b : Bool) → eq_by_cmp key_cmp k (key_named op) ≡ b → (is_among (touches ops) k ≡ true → length (key_code s k) ≤ most_bytes) → length (key_code s k) ≤ most_bytes
-    go true is later = subst (λ j. length (key_code s j) ≤ most_bytes) (sym (tells_apart key_exact k (key_named op) is)) (short 0 op (omega arith))
+    go : (b : Bool) → eq_by_cmp key_cmp k (key_named op) ≡ b → (is_among (touches ops) k ≡ true → length (key_code s k) ≤ most_code_bytes) → length (key_code s k) ≤ most_code_bytes
+    go true is later = subst (λ j. length (key_code s j) ≤ most_code_bytes) (sym (tells_apart key_exact k (key_named op) is)) (short 0 op (omega arith))
     go false is later = later (ap (λ b. b || is_among (touches ops) k) (sym is) ∙ e)
 
 pub loads_keep_short_keys : LoadsKeepShortKeys
 loads_keep_short_keys s load m lawful short k row is = go (is_among (touches load.ops) k) refl
   where
-    go : (b : Bool) → is_among (touches load.ops) k ≡ b → length (key_code s k) ≤ most_bytes
+    go : (b : Bool) → is_among (touches load.ops) k ≡ b → length (key_code s k) ≤ most_code_bytes
     go true e = short_named s load.ops k lawful.codes e
     go false e = short k row (sym (one_result_per_key s load m k ∙ unnamed s load.given load.ops k (get m k) e) ∙ is)
 

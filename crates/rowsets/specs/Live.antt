@@ -7,7 +7,7 @@ use Rattle.pk_values.specs.Order.{key_cmp}
 use Rattle.pk_values.specs.Schemas.{Layout, key_of}
 use Rattle.pk_values.specs.declared.cells.Value.{Value}
 use Rattle.key_code.specs.KeyCode.{key_code}
-use Rattle.pk_model.specs.Lawful.{most_bytes}
+use Rattle.pk_model.specs.Lawful.{most_code_bytes}
 use Rattle.pk_model.specs.Tables.{Rows}
 use Rattle.index_level0.specs.declared.place.Place.{Place}
 
@@ -77,7 +77,7 @@ pub record StandsFor (s : Layout) (rows : Live) (m : Rows) : Type 0 where
 
 -- no key of the map has a code that is too long
 abbrev pub HasShortKeys : Layout → Rows → Type 0
-HasShortKeys s m = (k row : List Value) → get m k ≡ Some row → length (key_code s k) ≤ most_bytes
+HasShortKeys s m = (k row : List Value) → get m k ≡ Some row → length (key_code s k) ≤ most_code_bytes
 
 -- what an index answers to each key: the place of its row, or none
 abbrev pub Index : Type 0
