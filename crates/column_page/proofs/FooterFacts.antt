@@ -5,7 +5,7 @@ use Rattle.std.specs.List.{flat_map}
 use Rattle.std.proofs.lemmas.List.{drop-drop}
 use Rattle.column_page.specs.declared.footers.ColumnMark.{ColumnMark}
 use Rattle.column_page.specs.declared.footers.BlockMark.{BlockMark}
-use Rattle.column_page.specs.declared.footers.Footer.{Footer}
+use Rattle.column_page.specs.declared.footers.FooterFields.{FooterFields}
 use Rattle.column_page.specs.Footers.{block_bytes, footer_fields, mark_bytes, u32_bytes, u64_bytes}
 use Rattle.column_page.specs.FooterReading.{BlockFits, FooterFits, SequenceThen}
 use Rattle.column_page.proofs.SequenceFacts.{u32_step, u64_step}
@@ -60,32 +60,32 @@ block_is place len rows marks b p l r m =
 
 -- ---- the whole footer
 
-abbrev pub after_count : Footer → List ℕ → List ℕ
+abbrev pub after_count : FooterFields → List ℕ → List ℕ
 after_count f rest = flat_map block_bytes f.blocks ++ rest
 
-abbrev pub after_footer_rows : Footer → List ℕ → List ℕ
+abbrev pub after_footer_rows : FooterFields → List ℕ → List ℕ
 after_footer_rows f rest = u32_bytes (length f.blocks) ++ after_count f rest
 
-abbrev pub after_columns : Footer → List ℕ → List ℕ
+abbrev pub after_columns : FooterFields → List ℕ → List ℕ
 after_columns f rest = u32_bytes f.rows ++ after_footer_rows f rest
 
-pub fields_open : (f : Footer) (rest bytes : List ℕ) → footer_fields f ++ rest ≡ bytes → u32_bytes f.columns ++ after_columns f rest ≡ bytes
+pub fields_open : (f : FooterFields) (rest bytes : List ℕ) → footer_fields f ++ rest ≡ bytes → u32_bytes f.columns ++ after_columns f rest ≡ bytes
 fields_open f rest bytes e = sym (regroup (u32_bytes f.columns) (u32_bytes f.rows) (u32_bytes (length f.blocks)) (flat_map block_bytes f.blocks) rest) ∙ e
 
 -- the columns are told, and the rows stand behind them
-pub columns_told : (columns : ℕ) (bytes p4 : List ℕ) (f : Footer) (rest : List ℕ) → FooterFits f → footer_fields f ++ rest ≡ bytes → columns < 2 ^ 32 → take 4 bytes ≡ u32_bytes columns → p4 ≡ drop 4 bytes → (columns ≡ f.columns) × (p4 ≡ after_columns f rest)
+pub columns_told : (columns : ℕ) (bytes p4 : List ℕ) (f : FooterFields) (rest : List ℕ) → FooterFits f → footer_fields f ++ rest ≡ bytes → columns < 2 ^ 32 → take 4 bytes ≡ u32_bytes columns → p4 ≡ drop 4 bytes → (columns ≡ f.columns) × (p4 ≡ after_columns f rest)
 columns_told columns bytes p4 f rest fit e small front p =
     let step = u32_step columns f.columns bytes (after_columns f rest) small fit.columns front (fields_open f rest bytes e) in
     (step.0, p ∙ step.1)
 
 -- the rows of all blocks are told, and the number of blocks stands behind them
-pub footer_rows_told : (rows : ℕ) (bytes p4 p8 : List ℕ) (f : Footer) (rest : List ℕ) → FooterFits f → p4 ≡ after_columns f rest → rows < 2 ^ 32 → take 4 p4 ≡ u32_bytes rows → p4 ≡ drop 4 bytes → p8 ≡ drop 8 bytes → (rows ≡ f.rows) × (p8 ≡ after_footer_rows f rest)
+pub footer_rows_told : (rows : ℕ) (bytes p4 p8 : List ℕ) (f : FooterFields) (rest : List ℕ) → FooterFits f → p4 ≡ after_columns f rest → rows < 2 ^ 32 → take 4 p4 ≡ u32_bytes rows → p4 ≡ drop 4 bytes → p8 ≡ drop 8 bytes → (rows ≡ f.rows) × (p8 ≡ after_footer_rows f rest)
 footer_rows_told rows bytes p4 p8 f rest fit e small front p q =
     let step = u32_step rows f.rows p4 (after_footer_rows f rest) small fit.rows front (sym e) in
     (step.0, piece_more 4 4 bytes p4 p8 (after_footer_rows f rest) p q step.1)
 
 -- the number of blocks is told, and the blocks stand behind it
-pub blocks_told : (columns count : ℕ) (bytes p8 p12 : List ℕ) (f : Footer) (rest : List ℕ) → FooterFits f → columns ≡ f.columns → p8 ≡ after_footer_rows f rest → count < 2 ^ 32 → take 4 p8 ≡ u32_bytes count → p8 ≡ drop 8 bytes → p12 ≡ drop 12 bytes → SequenceThen (BlockFits columns) block_bytes count p12 f.blocks rest
+pub blocks_told : (columns count : ℕ) (bytes p8 p12 : List ℕ) (f : FooterFields) (rest : List ℕ) → FooterFits f → columns ≡ f.columns → p8 ≡ after_footer_rows f rest → count < 2 ^ 32 → take 4 p8 ≡ u32_bytes count → p8 ≡ drop 8 bytes → p12 ≡ drop 12 bytes → SequenceThen (BlockFits columns) block_bytes count p12 f.blocks rest
 blocks_told columns count bytes p8 p12 f rest fit same e small front p q =
     let step = u32_step count (length f.blocks) p8 (after_count f rest) small fit.number front (sym e) in
     record {
@@ -94,11 +94,11 @@ blocks_told columns count bytes p8 p12 f rest fit same e small front p q =
       joined = sym (piece_more 8 4 bytes p8 p12 (after_count f rest) p q step.1);
     }
 
-pub footer_is : (columns rows : ℕ) (blocks : List BlockMark) (f : Footer) → columns ≡ f.columns → rows ≡ f.rows → blocks ≡ f.blocks → ◌≡◌ {A = Footer} (record { columns = columns; rows = rows; blocks = blocks }) f
+pub footer_is : (columns rows : ℕ) (blocks : List BlockMark) (f : FooterFields) → columns ≡ f.columns → rows ≡ f.rows → blocks ≡ f.blocks → ◌≡◌ {A = FooterFields} (record { columns = columns; rows = rows; blocks = blocks }) f
 footer_is columns rows blocks f c r b =
-    let x : Footer = record { columns = columns; rows = rows; blocks = blocks } in
-    let y : Footer = record { columns = f.columns; rows = rows; blocks = blocks } in
-    let z : Footer = record { columns = f.columns; rows = f.rows; blocks = blocks } in
+    let x : FooterFields = record { columns = columns; rows = rows; blocks = blocks } in
+    let y : FooterFields = record { columns = f.columns; rows = rows; blocks = blocks } in
+    let z : FooterFields = record { columns = f.columns; rows = f.rows; blocks = blocks } in
     let one : x ≡ y = ap (λ (n : ℕ). record x { columns = n }) c in
     let two : y ≡ z = ap (λ (n : ℕ). record y { rows = n }) r in
     one ∙ two ∙ ap (λ (bs : List BlockMark). record z { blocks = bs }) b

@@ -7,7 +7,7 @@ use Rattle.sha2.proofs.Facts256.{length-sha256}
 use Rattle.column_page.specs.Footers.{block_bytes, block_fits, blocks_fit, footer_body, footer_bytes, is_footer, mark_bytes, span_bytes, span_rises, u32_bytes, u64_bytes, wide_bytes}
 use Rattle.column_page.specs.declared.footers.BlockMark.{BlockMark}
 use Rattle.column_page.specs.declared.footers.ColumnMark.{ColumnMark}
-use Rattle.column_page.specs.declared.footers.Footer.{Footer}
+use Rattle.column_page.specs.declared.footers.FooterFields.{FooterFields}
 use Rattle.column_page.specs.declared.footers.Span.{Span}
 use Rattle.column_page.proofs.Lengths.{length-u32, length-u64, length-wide}
 use borrow.Author.Tests.{eqb-true}
@@ -37,7 +37,7 @@ block_parts columns at left b h =
       marks = eqb-true (length b.marks) columns p4.0;
     }
 
-pub record FooterParts (f : Footer) : Type 0 where
+pub record FooterParts (f : FooterFields) : Type 0 where
   pub some_columns : 1 ≤ f.columns
   pub few_columns : f.columns ≤ 64
   pub some_rows : 1 ≤ f.rows
@@ -45,7 +45,7 @@ pub record FooterParts (f : Footer) : Type 0 where
   pub few_blocks : length f.blocks ≤ 64
   pub fit : blocks_fit f.columns 0 f.rows f.blocks ≡ true
 
-pub footer_parts : (f : Footer) → is_footer f ≡ true → FooterParts f
+pub footer_parts : (f : FooterFields) → is_footer f ≡ true → FooterParts f
 footer_parts f h =
     let fit = blocks_fit f.columns 0 f.rows f.blocks in
     let e = nat_le (length f.blocks) 64 && fit in
@@ -99,7 +99,7 @@ length-blocks columns at left (b ∷ bs) h le =
     omega (arith, length-append (block_bytes b) (flat_map block_bytes bs), length-block b, length-blocks columns (at + b.length + 32) (left - b.rows) bs parts.1 le)
 
 -- a footer and its digest: 64 blocks of 64 columns, each mark with 34 bytes
-pub length-footer : (f : Footer) → is_footer f ≡ true → length (footer_body f) + 32 ≤ 140337
+pub length-footer : (f : FooterFields) → is_footer f ≡ true → length (footer_body f) + 32 ≤ 140337
 length-footer f h =
     let parts = footer_parts f h in
     let blocks = flat_map block_bytes f.blocks in
@@ -116,5 +116,5 @@ length-footer f h =
       length-u32 (length f.blocks),
     )
 
-pub footer_short : (f : Footer) → is_footer f ≡ true → length (footer_bytes f) ≤ 140337
+pub footer_short : (f : FooterFields) → is_footer f ≡ true → length (footer_bytes f) ≤ 140337
 footer_short f h = omega (arith, length-footer f h, length-append (footer_body f) (sha256 (footer_body f)), length-sha256 (footer_body f))

@@ -10,7 +10,7 @@ use Rattle.fixed_code.specs.NumberCode.{number_code}
 use Rattle.column_page.specs.declared.footers.Span.{Span}
 use Rattle.column_page.specs.declared.footers.ColumnMark.{ColumnMark}
 use Rattle.column_page.specs.declared.footers.BlockMark.{BlockMark}
-use Rattle.column_page.specs.declared.footers.Footer.{Footer}
+use Rattle.column_page.specs.declared.footers.FooterFields.{FooterFields}
 
 -- numbers in four and in eight bytes, the high one first, and a number in the 16 bytes of a LARGEINT
 unfoldable pub u32_bytes : ℕ → List ℕ
@@ -39,15 +39,15 @@ abbrev pub block_bytes : BlockMark → List ℕ
 block_bytes b = u64_bytes b.place ++ (u32_bytes b.length ++ (u32_bytes b.rows ++ flat_map mark_bytes b.marks))
 
 -- the numbers of columns, rows and blocks, and each block
-abbrev pub footer_fields : Footer → List ℕ
+abbrev pub footer_fields : FooterFields → List ℕ
 footer_fields f = u32_bytes f.columns ++ (u32_bytes f.rows ++ (u32_bytes (length f.blocks) ++ flat_map block_bytes f.blocks))
 
 -- `PKSG`, the form 1, and the fields
-abbrev pub footer_body : Footer → List ℕ
+abbrev pub footer_body : FooterFields → List ℕ
 footer_body f = 80 ∷ 75 ∷ 83 ∷ 71 ∷ 1 ∷ footer_fields f
 
 -- the body and its digest
-abbrev pub footer_bytes : Footer → List ℕ
+abbrev pub footer_bytes : FooterFields → List ℕ
 footer_bytes f = footer_body f ++ sha256 (footer_body f)
 
 -- the least is not above the greatest
@@ -66,10 +66,10 @@ blocks_fit columns at left [] = left == 0
 blocks_fit columns at left (b ∷ bs) = block_fits columns at left b && blocks_fit columns (at + b.length + 32) (left - b.rows) bs
 
 -- 1 to 64 columns and 1 to 65,536 rows in blocks
-abbrev pub is_footer : Footer → Truth
+abbrev pub is_footer : FooterFields → Truth
 is_footer f = nat_le 1 f.columns && (nat_le f.columns 64 && (nat_le 1 f.rows && (nat_le f.rows 65536 && (nat_le (length f.blocks) 64 && blocks_fit f.columns 0 f.rows f.blocks))))
 
-abbrev pub mark_at : Footer → ℕ → ℕ → Option ColumnMark
+abbrev pub mark_at : FooterFields → ℕ → ℕ → Option ColumnMark
 mark_at f b column = option_and_then (λ block. slice_get block.marks column) (slice_get f.blocks b)
 
 abbrev pub span_in : Option ColumnMark → Option Span

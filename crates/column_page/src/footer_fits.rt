@@ -2,7 +2,7 @@ ghost use Rattle.std.specs.Prelude.{◌≡◌, ◌≤◌, length};
 ghost use Rattle.std.specs.List.{list_all};
 ghost use Rattle.column_page.specs.Footers.{block_fits, blocks_fit, is_footer, span_rises};
 
-use crate::footers::{BlockMark, ColumnMark, Footer, Span};
+use crate::footers::{BlockMark, ColumnMark, FooterFields, Span};
 
 fn span_rises(span: Option<Span>) -> bool
     ensures { result ≡ span_rises span }
@@ -45,9 +45,9 @@ fn blocks_fit(columns: u32, rows: u32, blocks: &[BlockMark]) -> bool
     left == 0
 }
 
-/// Whether this is the footer of a segment: 1 to 64 columns and 1 to 65,536 rows in blocks that
+/// Whether a footer of a segment has these fields: 1 to 64 columns and 1 to 65,536 rows in blocks that
 /// stand without gaps, each with 1,024 rows but the last.
-pub fn is_footer(footer: &Footer) -> bool
+pub fn is_footer(footer: &FooterFields) -> bool
     ensures { result ≡ is_footer footer.now }
 {
     let blocks = footer.blocks.as_slice();

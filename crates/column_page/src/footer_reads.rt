@@ -4,12 +4,12 @@ ghost use Rattle.fixed_code.specs.NumberCode.{FitsBytes};
 ghost use Rattle.column_page.specs.declared.footers.Span.{Span};
 ghost use Rattle.column_page.specs.declared.footers.ColumnMark.{ColumnMark};
 ghost use Rattle.column_page.specs.declared.footers.BlockMark.{BlockMark};
-ghost use Rattle.column_page.specs.declared.footers.Footer.{Footer};
+ghost use Rattle.column_page.specs.declared.footers.FooterFields.{FooterFields};
 ghost use Rattle.column_page.specs.Footers.{block_bytes, footer_bytes, footer_fields, mark_bytes, u32_bytes, u64_bytes, wide_bytes};
 ghost use Rattle.column_page.specs.FooterReading.{BlockFits, FooterFits, MarkFits, SequenceThen, SpanFits};
 
 use crate::faults::FooterFault;
-use crate::footers::{BlockMark, ColumnMark, Footer, Span};
+use crate::footers::{BlockMark, ColumnMark, FooterFields, Span};
 use byteorder::{BigEndian, ByteOrder};
 use fixed_code::get;
 use pk_values::Items;
@@ -190,17 +190,17 @@ fn read_blocks(
 }
 
 // The footer whose numbers and blocks stand at the front of the bytes.
-fn read_fields(alloc: Global, bytes: &[u8]) -> Result<Footer, FooterFault>
+fn read_fields(alloc: Global, bytes: &[u8]) -> Result<FooterFields, FooterFault>
     ensures fit { IfOk result (λ found. FooterFits found) }
-    ensures only { IfOk result (λ found. (f : Footer) (rest : List ℕ) → FooterFits f → footer_fields f ++ rest ≡ bytes.now → found ≡ f) }
-    ensures none { IfErr result (λ e. e ≡ FooterFault.NotAFooter → (f : Footer) (rest : List ℕ) → FooterFits f → footer_fields f ++ rest ≡ bytes.now → ⊥) }
+    ensures only { IfOk result (λ found. (f : FooterFields) (rest : List ℕ) → FooterFits f → footer_fields f ++ rest ≡ bytes.now → found ≡ f) }
+    ensures none { IfErr result (λ e. e ≡ FooterFault.NotAFooter → (f : FooterFields) (rest : List ℕ) → FooterFits f → footer_fields f ++ rest ≡ bytes.now → ⊥) }
 {
     let columns = read_u32(bytes)?;
     let rows = read_u32(&bytes[4..])?;
     let count = read_u32(&bytes[8..])?;
     let found = read_blocks(alloc, columns, count, &bytes[12..])?;
     let blocks = Items::from_vec(found);
-    Ok(Footer {
+    Ok(FooterFields {
         columns,
         rows,
         blocks,
@@ -216,10 +216,10 @@ fn behind_form(bytes: &[u8]) -> Option<&[u8]>
 }
 
 /// The one footer that can have written the bytes, whether or not it did.
-pub fn only_footer(alloc: Global, bytes: &[u8]) -> Result<Footer, FooterFault>
+pub fn only_footer(alloc: Global, bytes: &[u8]) -> Result<FooterFields, FooterFault>
     ensures fit { IfOk result (λ found. FooterFits found) }
-    ensures only { IfOk result (λ found. (f : Footer) → FooterFits f → footer_bytes f ≡ bytes.now → found ≡ f) }
-    ensures none { IfErr result (λ e. e ≡ FooterFault.NotAFooter → (f : Footer) → FooterFits f → footer_bytes f ≡ bytes.now → ⊥) }
+    ensures only { IfOk result (λ found. (f : FooterFields) → FooterFits f → footer_bytes f ≡ bytes.now → found ≡ f) }
+    ensures none { IfErr result (λ e. e ≡ FooterFault.NotAFooter → (f : FooterFields) → FooterFits f → footer_bytes f ≡ bytes.now → ⊥) }
 {
     let Some(fields) = behind_form(bytes) else {
         return Err(FooterFault::NotAFooter);

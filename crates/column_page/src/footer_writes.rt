@@ -1,8 +1,9 @@
 ghost use Rattle.std.specs.Prelude.{◌≡◌, ◌<◌, ◌^◌, ◌++◌, OnOk, IfOk, IsTrue, length};
 ghost use Rattle.std.specs.List.{flat_map};
+ghost use Rattle.column_page.specs.FooterReading.{IsSegmentFooter};
 ghost use Rattle.column_page.specs.Footers.{block_bytes, footer_body, footer_bytes, mark_bytes, span_bytes, u32_bytes, u64_bytes, wide_bytes};
 
-use crate::footers::{BlockMark, ColumnMark, Footer, Span};
+use crate::footers::{BlockMark, ColumnMark, Footer, FooterFields, Span};
 use byteorder::{BigEndian, ByteOrder};
 use fixed_code::put;
 use pk_values::Octets;
@@ -82,7 +83,7 @@ fn put_blocks(out: &mut Vec<u8>, blocks: &[BlockMark]) -> Result<(), AllocError>
     Ok(())
 }
 
-fn put_body(out: &mut Vec<u8>, footer: &Footer) -> Result<(), AllocError>
+fn put_body(out: &mut Vec<u8>, footer: &FooterFields) -> Result<(), AllocError>
     requires { length footer.now.blocks < 2 ^ 32 }
     ensures { OnOk result (out.new.items ≡ out.old.items ++ footer_body footer.now) }
 {
@@ -99,11 +100,11 @@ fn put_body(out: &mut Vec<u8>, footer: &Footer) -> Result<(), AllocError>
 /// cell is NULL and else `00`, and then `01`, the least and the greatest, or `00` where there are
 /// none. Each of these two has the 16 bytes of a LARGEINT in a page.
 pub fn write_footer(alloc: Global, footer: &Footer) -> Result<Octets, AllocError>
-    requires { length footer.now.blocks < 2 ^ 32 }
-    ensures { IfOk result (λ bytes. bytes ≡ footer_bytes footer.now) }
+    ensures bytes { IfOk result (λ bytes. bytes ≡ footer_bytes footer.now) }
+    ensures valid { IsSegmentFooter footer.now }
 {
     let mut out = Vec::new(alloc);
-    put_body(&mut out, footer)?;
+    put_body(&mut out, footer.fields())?;
     let digest: [u8; 32] = Sha256::digest(out.as_slice());
     out.extend_from_slice(&digest)?;
     Ok(Octets::from_vec(out))

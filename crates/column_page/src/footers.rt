@@ -1,5 +1,7 @@
 use pk_values::Items;
 use std::alloc::{AllocError, Global};
+use std::marker::Model;
+use std::sync::Arc;
 
 /// The least and the greatest of the cells of a block's column that are not NULL, as numbers: a
 /// BOOLEAN is 0 or 1, and a DATE is its day.
@@ -31,76 +33,89 @@ pub struct BlockMark {
     pub marks: Items<ColumnMark>,
 }
 
-impl BlockMark {
-    ghost use Rattle.std.specs.Prelude.{◌≡◌, IfOk};
-
-    fn copy(&self, alloc: Global) -> Result<BlockMark, AllocError>
-        ensures { IfOk result (λ copy. copy ≡ self.now) }
-    {
-        let marks = Vec::from_slice(alloc, self.marks.as_slice())?;
-        Ok(BlockMark {
-            place: self.place,
-            length: self.length,
-            rows: self.rows,
-            marks: Items::from_vec(marks),
-        })
-    }
+/// What a footer tells of a segment.
+#[derive(Drop)]
+pub struct FooterFields {
+    /// How many columns it has.
+    pub columns: u32,
+    /// How many rows it has.
+    pub rows: u32,
+    /// What is told of each block, in the order of the file.
+    pub blocks: Items<BlockMark>,
 }
 
-/// The footer of a segment: how many columns and rows it has, and what is told of each block.
+/// The footer of a segment: 1 to 64 columns and 1 to 65,536 rows in blocks that stand without gaps,
+/// each with 1,024 rows but the last.
+///
+/// Contracts see a footer as its fields. Copies share them.
 #[derive(Drop)]
 pub struct Footer {
-    pub(crate) columns: u32,
-    pub(crate) rows: u32,
-    pub(crate) blocks: Items<BlockMark>,
+    fields: Arc<FooterFields, Global>,
+}
+
+impl Model for Footer {
+    ghost use Rattle.std.specs.Arc.{arc_value};
+    ghost use Rattle.column_page.specs.declared.footers.FooterFields.{FooterFields};
+    ghost use Rattle.column_page.specs.FooterReading.{IsSegmentFooter};
+
+    ghost Value = { FooterFields };
+
+    ghost view = { λ f. arc_value f.fields };
+
+    ghost invariant = { λ f. IsSegmentFooter (arc_value f.fields) };
 }
 
 impl Footer {
-    ghost use Rattle.std.specs.Prelude.{◌≡◌, ◌<◌, ◌^◌, length, slice_get, IfOk};
+    ghost use Rattle.std.specs.Prelude.{◌≡◌, ◌<◌, length, slice_get, IfOk};
     ghost use Rattle.column_page.specs.Footers.{mark_at, nulls_in, span_in};
+    ghost use Rattle.column_page.specs.FooterReading.{IsSegmentFooter};
 
-    /// The footer of so many columns and rows in these blocks. Nothing is tested: `read_footer` gives
-    /// only footers of segments.
-    pub fn new(columns: u32, rows: u32, blocks: Items<BlockMark>) -> Footer
-        ensures columns { result.columns ≡ columns }
-        ensures rows { result.rows ≡ rows }
-        ensures blocks { result.blocks ≡ blocks }
+    /// The footer of these fields.
+    pub fn new(alloc: Global, fields: FooterFields) -> Result<Footer, AllocError>
+        requires { IsSegmentFooter fields }
+        ensures { IfOk result (λ footer. footer ≡ fields) }
     {
-        Footer {
-            columns,
-            rows,
-            blocks,
-        }
+        let fields = Arc::new(alloc, fields)?;
+        Ok(Footer { fields })
+    }
+
+    /// What it tells. Each footer's fields are those of a segment.
+    pub fn fields(&self) -> &FooterFields
+        ensures fields { result.now ≡ self.now }
+        ensures valid { IsSegmentFooter self.now }
+    {
+        &self.fields
     }
 
     /// How many columns there are.
     pub fn columns(&self) -> u32
         ensures { result ≡ self.now.columns }
     {
-        self.columns
+        self.fields().columns
     }
 
     /// How many rows there are.
     pub fn rows(&self) -> u32
         ensures { result ≡ self.now.rows }
     {
-        self.rows
+        self.fields().rows
     }
 
     /// How many blocks there are.
     pub fn blocks(&self) -> u32
-        requires { length self.now.blocks < 2 ^ 32 }
-        ensures { result ≡ length self.now.blocks }
+        ensures count { result ≡ length self.now.blocks }
+        ensures valid { IsSegmentFooter self.now }
     {
-        self.blocks.as_slice().len() as u32
+        self.fields().blocks.as_slice().len() as u32
     }
 
     /// What is told of block `b`, counted from 0.
     pub fn block(&self, b: u32) -> &BlockMark
         requires { b < length self.now.blocks }
-        ensures { slice_get self.now.blocks b ≡ Some result.now }
+        ensures block { slice_get self.now.blocks b ≡ Some result.now }
+        ensures valid { IsSegmentFooter self.now }
     {
-        &self.blocks.as_slice()[b as usize]
+        &self.fields().blocks.as_slice()[b as usize]
     }
 
     /// The least and the greatest of the cells of a column in block `b` that aren't NULL, both
@@ -127,14 +142,13 @@ impl Footer {
             None => true,
         }
     }
-    /// A footer equal to this one.
-    pub fn copy(&self, alloc: Global) -> Result<Footer, AllocError>
+
+    /// A footer equal to this one, which shares its fields. It takes no memory, and fails only where
+    /// there are 2^63 - 1 copies.
+    pub fn copy(&self) -> Result<Footer, AllocError>
         ensures { IfOk result (λ copy. copy ≡ self.now) }
     {
-        let mut blocks = Vec::with_capacity(alloc, self.blocks.len())?;
-        for block in self.blocks.as_slice() {
-            blocks.push(block.copy(alloc)?)?;
-        }
-        Ok(Footer::new(self.columns, self.rows, Items::from_vec(blocks)))
+        let fields = Arc::try_clone(&self.fields)?;
+        Ok(Footer { fields })
     }
 }

@@ -19,7 +19,7 @@ mod words;
 
 pub use faults::{FooterFault, PageFault};
 pub use footer_writes::{put_u32, write_footer};
-pub use footers::{BlockMark, ColumnMark, Footer, Span};
+pub use footers::{BlockMark, ColumnMark, Footer, FooterFields, Span};
 pub use laws::column_marks;
 pub use marks::mark_of;
 pub use pages::{all_fit, decode_page, encode_page};

@@ -9,7 +9,7 @@ use Rattle.pk_values.specs.Schemas.{Layout, fits_row, schema_fault}
 use Rattle.pk_values.specs.SchemaFacts.{columns_within, keys_some, keys_within}
 use Rattle.pk_values.specs.declared.cells.Value.{Value}
 use Rattle.column_page.specs.Footers.{block_fits, blocks_fit, is_footer, span_rises}
-use Rattle.column_page.specs.FooterReading.{BlockFits, FooterFits}
+use Rattle.column_page.specs.FooterReading.{BlockFits, FooterFits, IsSegmentFooter}
 use Rattle.column_page.specs.declared.footers.BlockMark.{BlockMark}
 use Rattle.column_page.specs.declared.footers.ColumnMark.{ColumnMark}
 use Rattle.segment_form.specs.Segments.{block_body, block_file, block_mark, block_marks, blocks_for, blocks_from, blocks_of, footer_of, marks_of, AreSegmentRows}
@@ -130,3 +130,6 @@ segment_is_footer s rows lawful are =
     (and_from (nat_le (length rows) 65536) _ (le-leb (length rows) 65536 few)
     (and_from (nat_le (length blocks) 64) (blocks_fit (length s.columns) 0 (length rows) blocks) (le-leb (length blocks) 64 (omega arith))
     (stand s (blocks_for (length rows)) 0 rows refl)))))
+
+pub segment_footer_is : (s : Layout) (rows : List (List Value)) → schema_fault s.columns s.keys ≡ None → AreSegmentRows s rows → IsSegmentFooter (footer_of s rows)
+segment_footer_is s rows lawful are = record { is = segment_is_footer s rows lawful are; fits = segment_footer_fits s rows lawful are }

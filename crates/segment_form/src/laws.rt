@@ -1,18 +1,16 @@
 //! What follows from the definitions of segments. Each function states laws and does nothing when
 //! it is called.
 
-ghost use Rattle.std.specs.Prelude.{◌≡◌, ◌+◌, ◌*◌, ◌/◌, ℕ, List, IsTrue, length, slice_get, None, Some};
+ghost use Rattle.std.specs.Prelude.{◌≡◌, ◌+◌, ◌*◌, ◌/◌, ℕ, List, length, slice_get, None, Some};
 ghost use Rattle.std.specs.List.{flat_map};
 ghost use Rattle.pk_values.specs.Schemas.{Layout, schema_fault};
 ghost use Rattle.pk_values.specs.declared.cells.Value.{Value};
-ghost use Rattle.column_page.specs.FooterReading.{FooterFits};
-ghost use Rattle.column_page.specs.Footers.{is_footer};
+ghost use Rattle.column_page.specs.FooterReading.{IsSegmentFooter};
 ghost use Rattle.segment_form.specs.Segments.{blocks_of, AreSegmentRows, footer_of};
 
 /// The footer of the rows of a segment is a footer that can be written and read back.
 pub fn segment_footers()
-    ensures fits { (s : Layout) (rows : List (List Value)) → schema_fault s.columns s.keys ≡ None → AreSegmentRows s rows → FooterFits (footer_of s rows) }
-    ensures is_footer { (s : Layout) (rows : List (List Value)) → schema_fault s.columns s.keys ≡ None → AreSegmentRows s rows → IsTrue (is_footer (footer_of s rows)) }
+    ensures { (s : Layout) (rows : List (List Value)) → schema_fault s.columns s.keys ≡ None → AreSegmentRows s rows → IsSegmentFooter (footer_of s rows) }
 {}
 
 /// Rows are in blocks of 1,024, of which the last may have fewer, in their order.

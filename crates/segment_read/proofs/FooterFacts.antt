@@ -38,7 +38,7 @@ block_inside columns at left (b ∷ bs) (suc i) mark h g =
 -- each block of a file stands inside it
 pub block_within : (s : Layout) (f : Footer) (file : List ℕ) (i : ℕ) (mark : BlockMark) → HasFooter s f file → slice_get f.blocks i ≡ Some mark → mark.place + mark.length + 32 ≤ length file
 block_within s f file i mark has at =
-    let inside = block_inside f.columns 0 f.rows f.blocks i mark (footer_parts f has.is).fit at in
+    let inside = block_inside f.columns 0 f.rows f.blocks i mark (footer_parts f has.is.is).fit at in
     omega (arith, has.ends, ap length has.split, length-append has.blocks (tail_of f))
 
 -- the end is the same behind one block more

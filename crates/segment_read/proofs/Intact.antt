@@ -6,8 +6,7 @@ use Rattle.std.proofs.lemmas.List.Elements.{All-cons, All-drop, All-get_or, All-
 use Rattle.std.proofs.lemmas.Option.{get_or_from_slice_get, slice_get_within}
 use Rattle.pk_values.specs.Schemas.{fits_row, Layout}
 use Rattle.pk_values.specs.declared.cells.Value.{Value}
-use Rattle.column_page.specs.Footers.{is_footer}
-use Rattle.column_page.specs.FooterReading.{FooterFits}
+use Rattle.column_page.specs.FooterReading.{IsSegmentFooter}
 use Rattle.column_page.specs.declared.footers.BlockMark.{BlockMark}
 use Rattle.segment_form.specs.Segments.{block_body, block_file, block_mark, block_marks, blocks_for, blocks_from, blocks_of, footer_of, segment_file, tail_of, AreSegmentRows, KeysRise}
 use Rattle.segment_read.specs.Blocks.{AreBlockRows}
@@ -24,9 +23,8 @@ ends_told s at (b ∷ bs) =
     let there : next ≡ at + length (block_body s b) + 32 = omega (arith, length-block_file s b) in
     here ∙ ends_told s next bs ∙ ap (λ (k : ℕ). blocks_end k (block_marks s next bs)) there
 
-pub has_its_footer : (s : Layout) (rows : List (List Value)) → FooterFits (footer_of s rows) → IsTrue (is_footer (footer_of s rows)) → HasFooter s (footer_of s rows) (segment_file s rows)
-has_its_footer s rows fit is = record {
-  fit = fit;
+pub has_its_footer : (s : Layout) (rows : List (List Value)) → IsSegmentFooter (footer_of s rows) → HasFooter s (footer_of s rows) (segment_file s rows)
+has_its_footer s rows is = record {
   is = is;
   columns = refl;
   blocks = flat_map (block_file s) (blocks_of rows);

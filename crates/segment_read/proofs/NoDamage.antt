@@ -23,7 +23,7 @@ use Rattle.segment_read.specs.Reads.{block_in, IsDamage, OfBlock, OfFile, OnDama
 use Rattle.segment_read.specs.Rows.{FailsAt, FallsBack, IsFileOf, IsNoFile, IsNoSegment, IsRowsDamage, IsSegmentOf}
 use Rattle.segment_read.proofs.Intact.{block_there, has_its_footer}
 use Rattle.segment_read.proofs.TailFacts.{only_tail, tail_of_footer, tail_parts}
-use Rattle.segment_form.proofs.Blocks.{length-block_marks, segment_footer_fits, segment_is_footer}
+use Rattle.segment_form.proofs.Blocks.{length-block_marks, segment_footer_is}
 use Rattle.segment_form.proofs.RowsInBlocks.{all_joined}
 use Rattle.segment_read.proofs.SameRows.{same_before}
 use Rattle.segment_read.proofs.Whole.{rows_in}
@@ -138,7 +138,7 @@ rows_undamaged s f number reader read.Memory damage = tt
 -- the file of rows has their footer
 pub its_footer : (s : Layout) (file : List ℕ) (rows : List (List Value)) → schema_fault s.columns s.keys ≡ None → IsFileOf s file rows → HasFooter s (footer_of s rows) file
 its_footer s file rows lawful is = subst (λ (bytes : List ℕ). HasFooter s (footer_of s rows) bytes) (sym is.file_is)
-    (has_its_footer s rows (segment_footer_fits s rows lawful is.are) (segment_is_footer s rows lawful is.are))
+    (has_its_footer s rows (segment_footer_is s rows lawful is.are))
 
 pub footer_of_segment : (s : Layout) (file : List ℕ) (f : Footer) (rows : List (List Value)) → schema_fault s.columns s.keys ≡ None → ((other : Footer) → HasFooter s other file → f ≡ other) → IsFileOf s file rows → IsSegmentOf s f file rows
 footer_of_segment s file f rows lawful only is = record { are = is.are; footer_is = only (footer_of s rows) (its_footer s file rows lawful is); file_is = is.file_is }

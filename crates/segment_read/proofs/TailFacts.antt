@@ -103,7 +103,7 @@ tail_of_footer s f file has =
       front = has.blocks;
       split = has.split ∙ ap (λ (t : List ℕ). has.blocks ++ t) (append_assoc body (sha256 body) (u32_bytes (length (footer_bytes f))) ∙ ap (λ (k : ℕ). body ++ (sha256 body ++ u32_bytes k)) counted);
       is_long = long;
-      is_short = length-footer f has.is;
+      is_short = length-footer f has.is.is;
     }
 
 -- the footer of a file, between the place where the blocks end and its length
@@ -114,7 +114,6 @@ footer_at s f file bytes len long small number is has =
     let parts = only_tail file bytes body (sha256 body) len long small number is (tail_of_footer s f file has) in
     let written : footer_bytes f ≡ bytes = ap (λ (t : List ℕ). t ++ sha256 body) parts.0 ∙ ap (λ (t : List ℕ). take len bytes ++ t) parts.1 ∙ take-append-drop len bytes in
     record {
-      fit = has.fit;
       is = has.is;
       columns = has.columns;
       ends = omega (arith, has.ends, ap length has.split, length-append has.blocks (tail_of f), length-append (footer_bytes f) (u32_bytes (length (footer_bytes f))), length-u32 (length (footer_bytes f)), ap length written);
@@ -127,7 +126,6 @@ pub has_footer : (s : Layout) (f : Footer) (file bytes : List ℕ) (len : ℕ) �
 has_footer s f file bytes len long inside number is at =
     let counted : len + 32 ≡ length (footer_bytes f) = omega (arith, ap length at.written) in
     record {
-      fit = at.fit;
       is = at.is;
       columns = at.columns;
       blocks = take (length file - 4 - (len + 32)) file;

@@ -118,7 +118,7 @@ all_fit s file (m ∷ ms) (b ∷ bs) are = All-append (λ row. IsTrue (fits_row 
 pub segment_of : (s : Layout) (f : Footer) (file : List ℕ) (rows : List (List Value)) → HasFooter s f file → AreRowsBefore s f file (length f.blocks) rows → IsSegmentOf s f file rows
 segment_of s f file rows has before =
     let bs = before.blocks in
-    let parts = footer_parts f has.is in
+    let parts = footer_parts f has.is.is in
     let are : AreBlocks s file f.blocks bs = subst (λ (ms : List BlockMark). AreBlocks s file ms bs) (take_all (length f.blocks) f.blocks (omega arith)) before.are in
     let number : length rows ≡ f.rows = ap length (sym before.joined) ∙ rows_left s file f.columns 0 f.rows f.blocks bs parts.fit are in
     let count : blocks_for (length rows) ≡ length f.blocks = ap blocks_for number ∙ number_of_blocks f.columns 0 f.rows f.blocks parts.fit in

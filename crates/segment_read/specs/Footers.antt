@@ -1,9 +1,9 @@
 -- The footer that a file has, and how it is damaged.
-use Rattle.std.specs.Prelude.{◌≡◌, ◌≢◌, ℕ, ◌+◌, ◌≤◌, List, [], ◌∷◌, ◌++◌, length, take, drop, IsTrue}
+use Rattle.std.specs.Prelude.{◌≡◌, ◌≢◌, ℕ, ◌+◌, ◌≤◌, List, [], ◌∷◌, ◌++◌, length, take, drop}
 use Rattle.sha2.specs.Sha256.{sha256}
 use Rattle.pk_values.specs.Schemas.{Layout}
-use Rattle.column_page.specs.Footers.{footer_bytes, is_footer, u32_bytes}
-use Rattle.column_page.specs.FooterReading.{FooterFits}
+use Rattle.column_page.specs.Footers.{footer_bytes, u32_bytes}
+use Rattle.column_page.specs.FooterReading.{IsSegmentFooter}
 use Rattle.column_page.specs.declared.footers.BlockMark.{BlockMark}
 use Rattle.column_page.specs.declared.footers.Footer.{Footer}
 use Rattle.dev_traits.specs.declared.faults.Digest.{Digest}
@@ -19,8 +19,7 @@ blocks_end at (b ∷ bs) = blocks_end (at + b.length + 32) bs
 
 -- the footer of a table's file: it stands behind the blocks, and its length ends the file
 pub record HasFooter (s : Layout) (f : Footer) (file : List ℕ) : Type 0 where
-  pub fit : FooterFits f
-  pub is : IsTrue (is_footer f)
+  pub is : IsSegmentFooter f
   pub columns : f.columns ≡ length s.columns
   pub blocks : List ℕ
   pub ends : length blocks ≡ blocks_end 0 f.blocks
@@ -58,8 +57,7 @@ FooterShown s file Absent = ⊥
 -- ---- the footer between the place where the blocks end and its length
 
 pub record IsFooterAt (s : Layout) (at : ℕ) (bytes : List ℕ) (f : Footer) : Type 0 where
-  pub fit : FooterFits f
-  pub is : IsTrue (is_footer f)
+  pub is : IsSegmentFooter f
   pub columns : f.columns ≡ length s.columns
   pub ends : blocks_end 0 f.blocks ≡ at
   pub written : footer_bytes f ≡ bytes

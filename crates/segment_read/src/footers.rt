@@ -1,5 +1,5 @@
 ghost use Rattle.std.specs.Prelude.{◌≡◌, ◌↔◌, ◌+◌, ◌-◌, ◌≤◌, ℕ, List, IfErr, IfNone, IfOk, IfSome, IsTrue, length, drop};
-ghost use Rattle.column_page.specs.Footers.{is_footer, u32_bytes};
+ghost use Rattle.column_page.specs.Footers.{u32_bytes};
 ghost use Rattle.column_page.specs.declared.footers.Footer.{Footer};
 ghost use Rattle.dev_traits.specs.declared.faults.Part.TheVariants as part;
 ghost use Rattle.segment_read.specs.Blocks.{OnShown};
@@ -17,7 +17,6 @@ use std::alloc::Global;
 
 // Where the blocks end.
 fn blocks_end(footer: &Footer) -> u64
-    requires { IsTrue (is_footer footer.now) }
     ensures { result ≡ blocks_end 0 footer.now.blocks }
 {
     let mut at = 0;
@@ -107,7 +106,6 @@ pub fn read_tail<R: SealedReader>(
 ) -> Result<Footer, ReadFault>
     ensures footer { IfOk result (λ footer. KnowsFooter schema.now (R.view reader.old) footer) }
     ensures only { IfOk result (λ footer. OfFile (R.view reader.old) (λ file. (other : Footer) → HasFooter schema.now other file → footer ≡ other)) }
-    ensures is { IfOk result (λ footer. IsTrue (is_footer footer)) }
     ensures damaged { IfErr result (λ e. OnDamage e (IsDamage number part.Footer (λ shown. OfFile (R.view reader.old) (λ file. FooterShown schema.now file shown)))) }
     ensures reading { Reading 2 (R.view reader.old) (R.view reader.new) result }
 {

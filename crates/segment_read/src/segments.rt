@@ -1,6 +1,5 @@
 ghost use Rattle.std.specs.Prelude.{◌≡◌, ◌↔◌, ◌+◌, ◌/◌, ◌%◌, ◌<◌, ◌≤◌, All, IfErr, IfOk, OnOk, OnErr, IsTrue, List, Some, length, min, slice_get, ◌-◌, ◌^◌};
 ghost use Rattle.pk_values.specs.Schemas.{fits_row, Layout};
-ghost use Rattle.column_page.specs.Footers.{is_footer};
 ghost use Rattle.column_page.specs.declared.footers.Footer.{Footer};
 ghost use Rattle.dev_traits.specs.Reader.{IsNew, SameFile};
 ghost use Rattle.dev_traits.specs.declared.faults.Part.TheVariants as part;
@@ -29,7 +28,6 @@ pub struct Segment<R> {
     pub reader: R,
     /// The footer of the file.
     pub footer: Footer,
-    ghost is_of_segment: { IsTrue (is_footer footer) },
 }
 
 // Whether the block and its digest end within so many bytes.
@@ -184,6 +182,8 @@ pub fn row_at<R: SealedReader>(
     ensures kept { segment.new.footer ≡ segment.old.footer }
     ensures known { KnowsFooter schema.now (R.view segment.new.reader) segment.new.footer }
 {
+    // Its blocks hold so many rows as it tells.
+    let _footer = segment.footer.fields();
     let rows = block(alloc, schema, segment, row / 1024)?;
     Ok(take_row(rows, (row % 1024) as usize))
 }
@@ -204,7 +204,7 @@ impl<R: SealedReader> Segment<R> {
         ensures known { (s : Layout) → KnowsFooter s (R.view self.old.reader) self.old.footer → KnowsFooter s (R.view self.new.reader) self.new.footer }
         ensures copy_known { IfOk result (λ copy. (s : Layout) → KnowsFooter s (R.view self.old.reader) self.old.footer → KnowsFooter s (R.view copy.reader) copy.footer) }
     {
-        let footer = self.footer.copy(alloc)?;
+        let footer = self.footer.copy()?;
         let reader = self.reader.another()?;
         Ok(Segment {
             number: self.number,

@@ -1,4 +1,3 @@
-ghost use Rattle.std.specs.Prelude.{◌<◌, ◌^◌, IfOk, length};
 ghost use Rattle.segment_form.specs.Segments.{AreSegmentRows};
 
 use crate::fixtures::{one_row, rows_with_keys_below, table};
@@ -14,9 +13,7 @@ use std::process::Abort;
 use std::test::Fail;
 
 // The segment of these rows.
-fn written(rt: &impl Abort, alloc: Global, rows: &[Row]) -> Result<Made<Vec<u8>>, Fail>
-    ensures { IfOk result (λ made. length made.footer.blocks < 2 ^ 32) }
-{
+fn written(rt: &impl Abort, alloc: Global, rows: &[Row]) -> Result<Made<Vec<u8>>, Fail> {
     let schema = table(rt, alloc)?;
     assert!(rt; are_segment_rows(&schema, rows));
     let mut maker = Keeper::new(alloc, 0);

@@ -1,11 +1,9 @@
-ghost use Rattle.std.specs.Prelude.{◌≡◌, ℕ, List, Some, IfOk, OnOk, IsTrue, IsFalse, is_some, length};
-ghost use Rattle.column_page.specs.FooterReading.{FooterFits};
-ghost use Rattle.column_page.specs.Footers.{is_footer};
+ghost use Rattle.std.specs.Prelude.{◌≡◌, ℕ, List, Some, IfOk, OnOk, IsFalse, is_some};
 ghost use Rattle.segment_form.specs.Segments.{AreSegmentRows, block_marks, blocks_of, footer_of, segment_file, tail_of};
 ghost use Rattle.dev_traits.specs.Causes.{HasMakeCause};
 
 use crate::blocks::put_blocks;
-use column_page::{BlockMark, Footer, put_u32, write_footer};
+use column_page::{BlockMark, Footer, FooterFields, put_u32, write_footer};
 use dev_traits::{FileMaker, MakeFault};
 use pk_values::{Items, Row, Schema};
 use std::alloc::{AllocError, Global};
@@ -20,21 +18,29 @@ pub struct Made<X> {
 }
 
 // The footer of the rows of a segment, whose blocks have these marks.
-fn footer_of(schema: &Schema, rows: &[Row], marks: Items<BlockMark>) -> Footer
+fn footer_of(
+    alloc: Global,
+    schema: &Schema,
+    rows: &[Row],
+    blocks: Items<BlockMark>,
+) -> Result<Footer, AllocError>
     requires rows { AreSegmentRows schema.now rows.now }
-    requires marks { marks ≡ block_marks schema.now 0 (blocks_of rows.now) }
-    ensures footer { result ≡ footer_of schema.now rows.now }
-    ensures fits { FooterFits result }
-    ensures is_footer { IsTrue (is_footer result) }
+    requires marks { blocks ≡ block_marks schema.now 0 (blocks_of rows.now) }
+    ensures { IfOk result (λ footer. footer ≡ footer_of schema.now rows.now) }
 {
     let columns = schema.columns();
-    Footer::new(columns.len() as u32, rows.len() as u32, marks)
+    Footer::new(
+        alloc,
+        FooterFields {
+            columns: columns.len() as u32,
+            rows: rows.len() as u32,
+            blocks,
+        },
+    )
 }
 
 // The bytes of a footer and their number.
 fn tail(alloc: Global, footer: &Footer) -> Result<Vec<u8>, AllocError>
-    requires fits { FooterFits footer.now }
-    requires is_footer { IsTrue (is_footer footer.now) }
     ensures { IfOk result (λ tail. tail.items ≡ tail_of footer.now) }
 {
     let mut tail = write_footer(alloc, footer)?.into_vec();
@@ -66,10 +72,6 @@ pub fn write_segment<M: FileMaker>(
     // Where the maker tells its bytes, so does the file.
     ensures told { IfOk result (λ made. is_some (M.sealed_bytes made.sealed) ≡ is_some (M.view maker.old).made) }
 
-    // The footer can be read back.
-    ensures fits { IfOk result (λ made. FooterFits made.footer) }
-    ensures is_footer { IfOk result (λ made. IsTrue (is_footer made.footer)) }
-
     // The maker has no file under way.
     ensures closed { OnOk result (IsFalse (M.view maker.new).is_started) }
 
@@ -78,7 +80,7 @@ pub fn write_segment<M: FileMaker>(
 {
     maker.start()?;
     let marks = put_blocks(alloc, maker, schema, rows)?;
-    let footer = footer_of(schema, rows, marks);
+    let footer = footer_of(alloc, schema, rows, marks)?;
     let tail = tail(alloc, &footer)?;
     maker.add(&tail)?;
     let sealed = maker.seal()?;

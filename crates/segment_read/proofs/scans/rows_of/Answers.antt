@@ -43,7 +43,7 @@ loop-b-preserved g c =
 pub returns-clause-segment : goal.returns-clause-segment
 returns-clause-segment g c = λ file told.
     let f = c.args.segment.now.footer in
-    let all : c.loop-b.b ≡ length f.blocks = omega (arith, c.blocks-b-end.ensures) in
+    let all : c.loop-b.b ≡ length f.blocks = omega (arith, (c.blocks-b-end.ensures).count) in
     segment_of c.args.schema.now f file c.loop-b.rows.items (c.requires file told) (subst (λ (n : ℕ). AreRowsBefore c.args.schema.now f file n c.loop-b.rows.items) all (c.loop-b.invariant.read file told))
 
 pub returns-clause-known : goal.returns-clause-known
@@ -52,12 +52,12 @@ returns-clause-known g c = known_still c.args.schema.now (g.R.SealedReader.view 
 
 pub returns-clause-count : goal.returns-clause-count
 returns-clause-count g c =
-    all_counted c.args.segment.now.footer c.loop-b.b (length c.loop-b.rows.items) (omega (arith, c.blocks-b-end.ensures)) c.loop-b.invariant.count
+    all_counted c.args.segment.now.footer c.loop-b.b (length c.loop-b.rows.items) (omega (arith, (c.blocks-b-end.ensures).count)) c.loop-b.invariant.count
 
 pub returns-clause-of_segment : goal.returns-clause-of_segment
 returns-clause-of_segment g c = λ file told rows is.
     let f = c.args.segment.now.footer in
-    let all : c.loop-b.b ≡ length f.blocks = omega (arith, c.blocks-b-end.ensures) in
+    let all : c.loop-b.b ≡ length f.blocks = omega (arith, (c.blocks-b-end.ensures).count) in
     rows_of_segment c.args.schema.now f file rows c.loop-b.rows.items is (subst (λ (n : ℕ). AreRowsBefore c.args.schema.now f file n c.loop-b.rows.items) all (c.loop-b.invariant.read file told))
 
 pub loop-b-init : goal.loop-b-init
@@ -67,7 +67,7 @@ loop-b-init g c = record {
   number = refl;
   kept = refl;
   counted = none_read (g.R.SealedReader.view c.args.segment.now.reader);
-  count = rw c.new-rows.ensures.items (none_counted c.args.segment.now.footer c.args.segment.now.is_of_segment);
+  count = rw c.new-rows.ensures.items (none_counted c.args.segment.now.footer (c.blocks-b-end.ensures).valid.is);
   read = λ file told. rw c.new-rows.ensures.items (none_before c.args.schema.now c.args.segment.now.footer file);
 }
 
@@ -82,5 +82,5 @@ returns-in_err-add_block-clause-intact g c =
 
 pub returns-clause-rows : goal.returns-clause-rows
 returns-clause-rows g c = λ file told.
-    let all : c.loop-b.b ≡ length c.args.segment.now.footer.blocks = omega (arith, c.blocks-b-end.ensures) in
+    let all : c.loop-b.b ≡ length c.args.segment.now.footer.blocks = omega (arith, (c.blocks-b-end.ensures).count) in
     subst (λ (n : ℕ). AreRowsBefore c.args.schema.now c.args.segment.now.footer file n c.loop-b.rows.items) all (c.loop-b.invariant.read file told)

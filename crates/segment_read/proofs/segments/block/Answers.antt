@@ -12,13 +12,13 @@ same_mark : (f : Footer) (b : ℕ) (mark other : BlockMark) → slice_get f.bloc
 same_mark f b mark other got also = cc
 
 pub block_rows-requires : goal.block_rows-requires
-block_rows-requires g c = λ file told. block_within c.args.schema.now c.args.segment.now.footer file c.args.b c.block-mark.result.now (c.requires.footer file told) c.block-mark.ensures
+block_rows-requires g c = λ file told. block_within c.args.schema.now c.args.segment.now.footer file c.args.b c.block-mark.result.now (c.requires.footer file told) (c.block-mark.ensures).block
 
 pub returns-clause-of_segment : goal.returns-clause-of_segment
 returns-clause-of_segment g c =
     if_ok_so c.block_rows.result _ _
     (λ found read file told rows is. block_of_segment c.args.schema.now c.args.segment.now.footer file rows found.items c.args.b is c.requires.there
-    (λ mark got. subst (λ (m : BlockMark). AreTheRows c.args.schema.now m (block_in file m) found.items) (same_mark c.args.segment.now.footer c.args.b c.block-mark.result.now mark c.block-mark.ensures got) (read file told)))
+    (λ mark got. subst (λ (m : BlockMark). AreTheRows c.args.schema.now m (block_in file m) found.items) (same_mark c.args.segment.now.footer c.args.b c.block-mark.result.now mark (c.block-mark.ensures).block got) (read file told)))
     c.block_rows.ensures.rows
 
 pub returns-clause-known : goal.returns-clause-known
@@ -33,5 +33,5 @@ returns-clause-intact g c =
     let reader = g.R.SealedReader.view c.args.segment.now.reader in
     if_err_so c.block_rows.result _ _
     (λ e damage. block_undamaged c.args.schema.now f c.args.segment.now.number c.args.b reader e c.requires.there
-    (damage_weaker e _ _ _ _ (λ shown shows file told mark got. subst (λ (m : BlockMark). BlockShown c.args.schema.now m (block_in file m) shown) (same_mark f c.args.b c.block-mark.result.now mark c.block-mark.ensures got) (shows file told)) damage))
+    (damage_weaker e _ _ _ _ (λ shown shows file told mark got. subst (λ (m : BlockMark). BlockShown c.args.schema.now m (block_in file m) shown) (same_mark f c.args.b c.block-mark.result.now mark (c.block-mark.ensures).block got) (shows file told)) damage))
     c.block_rows.ensures.damaged
