@@ -1,5 +1,5 @@
 -- Where the blocks of a footer stand.
-use Rattle.std.proofs.Common.{◌≡◌, ℕ, zero, suc, ◌+◌, ◌-◌, ◌*◌, ◌/◌, ◌%◌, ◌<◌, ◌≤◌, List, [], ◌∷◌, ◌++◌, true, Some, None, length, take, drop, sym, ap, ◌∙◌, arith, slice_get, length-append}
+use Rattle.std.proofs.Common.{◌≡◌, ℕ, zero, suc, ◌+◌, ◌-◌, ◌*◌, ◌/◌, ◌%◌, ◌<◌, ◌≤◌, List, [], ◌∷◌, ◌++◌, true, Some, None, length, get_or, take, drop, sym, ap, ◌∙◌, arith, slice_get, length-append}
 use Rattle.std.proofs.lemmas.List.{drop_more, take_more}
 use Rattle.std.proofs.lemmas.Option.{get_or_from_slice_get, slice_get-get_or, slice_get_within}
 use Rattle.std.proofs.lemmas.Bool.{and_parts}
@@ -10,8 +10,9 @@ use Rattle.column_page.specs.declared.footers.BlockMark.{BlockMark}
 use Rattle.column_page.specs.declared.footers.Footer.{Footer}
 use Rattle.segment_form.specs.Segments.{tail_of}
 use Rattle.pk_values.specs.declared.cells.Value.{Value}
-use Rattle.segment_read.specs.Blocks.{AreTheRows}
+use Rattle.segment_read.proofs.Counted.{no_mark}
 use Rattle.segment_read.specs.Footers.{blocks_end, HasFooter}
+use Rattle.segment_read.specs.Reads.{OfBlock}
 use borrow.Author.Tests.{eqb-true}
 
 ends_behind : (at : ℕ) (bs : List BlockMark) → at ≤ blocks_end at bs
@@ -75,10 +76,9 @@ take_got bs i mark got =
     take_more bs i mark (slice_get_within bs i mark got) ∙ ap (λ (m : BlockMark). take i bs ++ m ∷ []) (get_or_from_slice_get bs i mark mark got)
 
 -- a row of the footer is among the rows of its block
-pub no_row : (s : Layout) (f : Footer) (bytes : List ℕ) (mark : BlockMark) (rows : List (List Value)) (row : ℕ) → is_footer f ≡ true → row < f.rows → slice_get f.blocks (row / 1024) ≡ Some mark → AreTheRows s mark bytes rows
-    → slice_get rows (row % 1024) ≡ None → ⊥
-no_row s f bytes mark rows row is lt got are none =
-    let there = (row_inside f row is lt).1 mark got in
-    let number : length rows ≡ mark.rows = ap (λ (b : BlockMark). b.rows) are.are.told in
-    let here = slice_get-get_or rows (row % 1024) [] (omega arith) in
-    cc
+pub row_counted : (f : Footer) (rows : List (List Value)) (row : ℕ) → is_footer f ≡ true → row < f.rows → OfBlock f (row / 1024) (λ mark. length rows ≡ mark.rows) → row % 1024 < length rows
+row_counted f rows row is lt counted =
+    let there = row_inside f row is lt in
+    let mark = get_or f.blocks (row / 1024) no_mark in
+    let got = slice_get-get_or f.blocks (row / 1024) no_mark there.0 in
+    omega (arith, there.1 mark got, counted mark got)

@@ -9,3 +9,6 @@ pub mod TailFacts
 pub mod Scanning
 pub mod Whole
 pub mod Intact
+pub mod SameRows
+pub mod NoDamage
+pub mod Counted

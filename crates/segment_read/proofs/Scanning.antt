@@ -18,7 +18,7 @@ use Rattle.segment_form.specs.Segments.{block_marks, blocks_of, KeysRise}
 use Rattle.segment_form.proofs.Blocks.{length-block_marks}
 use Rattle.segment_read.specs.Blocks.{AreBlockRows, AreTheRows, BlockShown}
 use Rattle.segment_read.specs.Footers.{HasFooter}
-use Rattle.segment_read.specs.Reads.{block_in, HasRead, IsDamage, KnowsFooter, OfBlock, OnDamage, Reading, Told}
+use Rattle.segment_read.specs.Reads.{block_in, HasRead, IsDamage, KnowsFooter, OfBlock, OnDamage, Reading, OfFile}
 use Rattle.segment_read.specs.Rows.{AreBlocks, AreRowsBefore, FallsBack, IsRowsDamage, IsSegmentOf}
 use Rattle.segment_read.proofs.FooterFacts.{take_got}
 use Rattle.segment_read.proofs.Intact.{block_there}
@@ -64,8 +64,8 @@ one_block_more s f file n rows longer before lt added rise =
 
 -- the damage of the next block is one of the rows
 pub rows_damage : (s : Layout) (f f' : Footer) (number number' n : ℕ) (old now : ReaderView) (rows : List (List Value)) (e : ReadFault) → f' ≡ f → number' ≡ number → now.bytes ≡ old.bytes → n < length f.blocks
-    → Told old (λ file. AreRowsBefore s f file n rows)
-    → OnDamage e (IsDamage number' (part.Block n) (λ shown. Told now (λ file. OfBlock f' n (λ mark. BlockShown s mark (block_in file mark) shown ⊎ FallsBack s (block_in file mark) mark rows shown))))
+    → OfFile old (λ file. AreRowsBefore s f file n rows)
+    → OnDamage e (IsDamage number' (part.Block n) (λ shown. OfFile now (λ file. OfBlock f' n (λ mark. BlockShown s mark (block_in file mark) shown ⊎ FallsBack s (block_in file mark) mark rows shown))))
     → OnDamage e (IsRowsDamage s f number old)
 rows_damage s f f' number number' n old now rows (read.Damaged d) kept same bytes lt before is = record {
   block = n;
@@ -95,6 +95,15 @@ pub record ReadSoFar (count : ℕ) (old new : ReaderView) : Type 0 where
   pub grows : min (old.reads + count) (2 ^ 64 - 1) ≤ new.reads
   pub capped : 1 ≤ count → new.reads ≤ 2 ^ 64 - 1
   pub unfailed : new.faults ≡ old.faults
+
+pub none_read : (reader : ReaderView) → ReadSoFar 0 reader reader
+none_read reader = record {
+  same = record { bytes = refl; size = refl };
+  most = omega arith;
+  grows = omega arith;
+  capped = λ h. absurd (omega arith);
+  unfailed = refl;
+}
 
 same_through : (old mid new : ReaderView) → SameFile old mid → SameFile mid new → SameFile old new
 same_through old mid new one two = record { bytes = two.bytes ∙ one.bytes; size = two.size ∙ one.size }

@@ -21,7 +21,7 @@ use Rattle.column_page.proofs.FooterParts.{block_parts, footer_parts}
 use borrow.Author.Tests.{eqb-true}
 
 -- the rows of blocks
-abbrev rows_in : List (List (List Value)) → List (List Value)
+abbrev pub rows_in : List (List (List Value)) → List (List Value)
 rows_in bs = flat_map (λ b. b) bs
 
 -- what is told of the first block, and of the others

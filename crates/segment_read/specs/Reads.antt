@@ -15,12 +15,12 @@ use Rattle.segment_read.specs.declared.faults.PartFault.TheVariants as parts
 use Rattle.segment_read.specs.Footers.{HasFooter}
 
 -- where a reader tells the bytes of its file, this holds of them
-abbrev pub Told : ReaderView → (List ℕ → Type 0) → Type 0
-Told reader P = (file : List ℕ) → reader.bytes ≡ Some file → P file
+abbrev pub OfFile : ReaderView → (List ℕ → Type 0) → Type 0
+OfFile reader P = (file : List ℕ) → reader.bytes ≡ Some file → P file
 
 -- where the reader tells, the footer is that of its file
 abbrev pub KnowsFooter : Layout → ReaderView → Footer → Type 0
-KnowsFooter s reader f = Told reader (HasFooter s f)
+KnowsFooter s reader f = OfFile reader (HasFooter s f)
 
 -- this holds of what a footer tells of the block in place b
 abbrev pub OfBlock : Footer → ℕ → (BlockMark → Type 0) → Type 0

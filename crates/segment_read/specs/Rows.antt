@@ -12,7 +12,7 @@ use Rattle.dev_traits.specs.declared.faults.Shown.TheVariants.{Form}
 use Rattle.segment_form.specs.Segments.{footer_of, segment_file, AreSegmentRows, KeysRise}
 use Rattle.segment_read.specs.Blocks.{AreTheRows, BlockShown}
 use Rattle.dev_traits.specs.Reader.{ReaderView}
-use Rattle.segment_read.specs.Reads.{block_in, OfBlock, Told}
+use Rattle.segment_read.specs.Reads.{block_in, OfBlock, OfFile}
 
 -- each block that the marks tell of has these rows
 abbrev pub AreBlocks : Layout → List ℕ → List BlockMark → List (List (List Value)) → Type 0
@@ -53,4 +53,17 @@ pub record IsRowsDamage (s : Layout) (f : Footer) (number : ℕ) (reader : Reade
   pub there : block < length f.blocks
   pub file_is : damaged.file ≡ number
   pub part_is : damaged.part ≡ part.Block block
-  pub shows : Told reader (λ file. FailsAt s f file block damaged.shown)
+  pub shows : OfFile reader (λ file. FailsAt s f file block damaged.shown)
+
+-- no rows have this footer and this file
+abbrev pub IsNoSegment : Layout → Footer → List ℕ → Type 0
+IsNoSegment s f file = (rows : List (List Value)) → IsSegmentOf s f file rows → ⊥
+
+-- rows of which this is the file
+pub record IsFileOf (s : Layout) (file : List ℕ) (rows : List (List Value)) : Type 0 where
+  pub are : AreSegmentRows s rows
+  pub file_is : file ≡ segment_file s rows
+
+-- the file of no rows
+abbrev pub IsNoFile : Layout → List ℕ → Type 0
+IsNoFile s file = (rows : List (List Value)) → IsFileOf s file rows → ⊥

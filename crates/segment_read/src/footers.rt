@@ -4,7 +4,7 @@ ghost use Rattle.column_page.specs.declared.footers.Footer.{Footer};
 ghost use Rattle.dev_traits.specs.declared.faults.Part.TheVariants as part;
 ghost use Rattle.segment_read.specs.Blocks.{OnShown};
 ghost use Rattle.segment_read.specs.Footers.{blocks_end, longest_footer, FooterShown, HasFooter, HasTail, IsTheFooter, TailShown};
-ghost use Rattle.segment_read.specs.Reads.{HasFailed, HasRead, IsDamage, KnowsFooter, MayHaveRead, OnDamage, Reading, Told};
+ghost use Rattle.segment_read.specs.Reads.{HasFailed, HasRead, IsDamage, KnowsFooter, MayHaveRead, OnDamage, Reading, OfFile};
 
 use crate::digests::digests_shown;
 use crate::faults::{PartFault, fault_of};
@@ -70,8 +70,8 @@ fn fits_tail(len: u32, size: u64) -> bool
 // The length of a footer that the last four bytes of a file tell, where there can be one.
 fn footer_length<R: SealedReader>(reader: &mut R) -> Result<Option<u32>, ReadFault>
     ensures fits { IfOk result (λ found. IfSome found (λ len. (32 ≤ len) × (len ≤ longest_footer) × (len + 4 ≤ (R.view reader.old).size))) }
-    ensures told { IfOk result (λ found. IfSome found (λ len. Told (R.view reader.old) (λ file. drop (length file - 4) file ≡ u32_bytes len))) }
-    ensures none { IfOk result (λ found. IfNone found (Told (R.view reader.old) (λ file. (body digest : List ℕ) → HasTail file body digest → ⊥))) }
+    ensures told { IfOk result (λ found. IfSome found (λ len. OfFile (R.view reader.old) (λ file. drop (length file - 4) file ≡ u32_bytes len))) }
+    ensures none { IfOk result (λ found. IfNone found (OfFile (R.view reader.old) (λ file. (body digest : List ℕ) → HasTail file body digest → ⊥))) }
     ensures undamaged { IfErr result (λ e. OnDamage e (λ damaged. ⊥)) }
     ensures read { IfOk result (λ found. IfSome found (λ len. HasRead 1 (R.view reader.old) (R.view reader.new))) }
     ensures refused { IfOk result (λ found. IfNone found (MayHaveRead 1 (R.view reader.old) (R.view reader.new))) }
@@ -106,9 +106,9 @@ pub fn read_tail<R: SealedReader>(
     number: u64,
 ) -> Result<Footer, ReadFault>
     ensures footer { IfOk result (λ footer. KnowsFooter schema.now (R.view reader.old) footer) }
-    ensures only { IfOk result (λ footer. Told (R.view reader.old) (λ file. (other : Footer) → HasFooter schema.now other file → footer ≡ other)) }
+    ensures only { IfOk result (λ footer. OfFile (R.view reader.old) (λ file. (other : Footer) → HasFooter schema.now other file → footer ≡ other)) }
     ensures is { IfOk result (λ footer. IsTrue (is_footer footer)) }
-    ensures damaged { IfErr result (λ e. OnDamage e (IsDamage number part.Footer (λ shown. Told (R.view reader.old) (λ file. FooterShown schema.now file shown)))) }
+    ensures damaged { IfErr result (λ e. OnDamage e (IsDamage number part.Footer (λ shown. OfFile (R.view reader.old) (λ file. FooterShown schema.now file shown)))) }
     ensures reading { Reading 2 (R.view reader.old) (R.view reader.new) result }
 {
     let size = reader.length();

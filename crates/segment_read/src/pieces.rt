@@ -1,5 +1,5 @@
 ghost use Rattle.std.specs.Prelude.{◌≡◌, ◌+◌, ◌≤◌, IfErr, IfOk, length, take, drop};
-ghost use Rattle.segment_read.specs.Reads.{OnDamage, Reading, Told};
+ghost use Rattle.segment_read.specs.Reads.{OnDamage, Reading, OfFile};
 
 use dev_traits::{ReadFault, SealedReader};
 use std::alloc::Global;
@@ -12,7 +12,7 @@ pub fn read_piece<R: SealedReader>(
     len: usize,
 ) -> Result<Vec<u8>, ReadFault>
     requires { at + len ≤ (R.view reader.old).size }
-    ensures bytes { IfOk result (λ bytes. Told (R.view reader.old) (λ file. bytes.items ≡ take len (drop at file))) }
+    ensures bytes { IfOk result (λ bytes. OfFile (R.view reader.old) (λ file. bytes.items ≡ take len (drop at file))) }
     ensures long { IfOk result (λ bytes. length bytes.items ≡ len) }
     ensures undamaged { IfErr result (λ e. OnDamage e (λ damaged. ⊥)) }
     ensures reading { Reading 1 (R.view reader.old) (R.view reader.new) result }

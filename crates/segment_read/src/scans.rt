@@ -5,8 +5,8 @@ ghost use Rattle.dev_traits.specs.declared.faults.Part.TheVariants as part;
 ghost use Rattle.dev_traits.specs.declared.faults.ReadFault.TheVariants as read;
 ghost use Rattle.segment_form.specs.Segments.{KeysRise};
 ghost use Rattle.segment_read.specs.Blocks.{AreTheRows, BlockShown};
-ghost use Rattle.segment_read.specs.Reads.{block_in, IsDamage, KnowsFooter, OfBlock, OnDamage, Reading, Told};
-ghost use Rattle.segment_read.specs.Rows.{AreRowsBefore, FallsBack, IsRowsDamage, IsSegmentOf};
+ghost use Rattle.segment_read.specs.Reads.{block_in, IsDamage, KnowsFooter, OfBlock, OnDamage, Reading, OfFile};
+ghost use Rattle.segment_read.specs.Rows.{AreRowsBefore, FallsBack, IsNoSegment, IsRowsDamage, IsSegmentOf};
 
 use crate::faults::{PartFault, fault_of};
 use crate::segments::{Segment, block};
@@ -54,10 +54,11 @@ fn add_block<R: SealedReader>(
     requires rise { KeysRise schema.now rows.old.items }
     ensures fit { OnOk result (All (λ row. IsTrue (fits_row schema.now row)) rows.new.items) }
     ensures rise { OnOk result (KeysRise schema.now rows.new.items) }
-    ensures added { OnOk result (Told (R.view segment.old.reader) (λ file. OfBlock segment.old.footer b (λ mark.
+    ensures added { OnOk result (OfFile (R.view segment.old.reader) (λ file. OfBlock segment.old.footer b (λ mark.
         (next : List (List Value)) × AreTheRows schema.now mark (block_in file mark) next × (rows.new.items ≡ rows.old.items ++ next)))) }
+    ensures count { OnOk result (OfBlock segment.old.footer b (λ mark. length rows.new.items ≡ length rows.old.items + mark.rows)) }
     ensures damaged { IfErr result (λ e. OnDamage e (IsDamage segment.old.number (part.Block b) (λ shown.
-        Told (R.view segment.old.reader) (λ file. OfBlock segment.old.footer b (λ mark.
+        OfFile (R.view segment.old.reader) (λ file. OfBlock segment.old.footer b (λ mark.
         BlockShown schema.now mark (block_in file mark) shown ⊎ FallsBack schema.now (block_in file mark) mark rows.old.items shown))))) }
     ensures reading { Reading 1 (R.view segment.old.reader) (R.view segment.new.reader) result }
     ensures number { segment.new.number ≡ segment.old.number }
@@ -84,11 +85,21 @@ pub fn rows_of<R: SealedReader>(
     segment: &mut Segment<R>,
 ) -> Result<Vec<Row>, ReadFault>
     requires { KnowsFooter schema.now (R.view segment.old.reader) segment.old.footer }
-    ensures rows { IfOk result (λ rows. Told (R.view segment.old.reader) (λ file. AreRowsBefore schema.now segment.old.footer file (length segment.old.footer.blocks) rows.items)) }
-    ensures segment { IfOk result (λ rows. Told (R.view segment.old.reader) (λ file. IsSegmentOf schema.now segment.old.footer file rows.items)) }
+    ensures rows { IfOk result (λ rows. OfFile (R.view segment.old.reader) (λ file. AreRowsBefore schema.now segment.old.footer file (length segment.old.footer.blocks) rows.items)) }
+    ensures segment { IfOk result (λ rows. OfFile (R.view segment.old.reader) (λ file. IsSegmentOf schema.now segment.old.footer file rows.items)) }
+
+    // Of the file of a segment, the segment's rows.
+    ensures of_segment { IfOk result (λ found. OfFile (R.view segment.old.reader) (λ file. (rows : List (List Value)) → IsSegmentOf schema.now segment.old.footer file rows
+        → found.items ≡ rows)) }
+
+    // As many as the footer tells, whatever the reader tells.
+    ensures count { IfOk result (λ rows. length rows.items ≡ segment.old.footer.rows) }
     ensures fit { IfOk result (λ rows. All (λ row. IsTrue (fits_row schema.now row)) rows.items) }
     ensures rise { IfOk result (λ rows. KeysRise schema.now rows.items) }
     ensures damaged { IfErr result (λ e. OnDamage e (IsRowsDamage schema.now segment.old.footer segment.old.number (R.view segment.old.reader))) }
+
+    // No damage is told of the file of a segment.
+    ensures intact { IfErr result (λ e. OnDamage e (λ damaged. OfFile (R.view segment.old.reader) (IsNoSegment schema.now segment.old.footer))) }
     ensures reading { Reading (length segment.old.footer.blocks) (R.view segment.old.reader) (R.view segment.new.reader) result }
     ensures number { segment.new.number ≡ segment.old.number }
     ensures kept { segment.new.footer ≡ segment.old.footer }

@@ -5,11 +5,11 @@ ghost use Rattle.column_page.specs.declared.footers.Footer.{Footer};
 ghost use Rattle.dev_traits.specs.Reader.{IsNew, SameFile};
 ghost use Rattle.dev_traits.specs.declared.faults.Part.TheVariants as part;
 ghost use Rattle.segment_form.specs.Segments.{blocks_of, KeysRise};
-ghost use Rattle.segment_read.specs.Rows.{IsSegmentOf};
+ghost use Rattle.segment_read.specs.Rows.{IsFileOf, IsNoFile, IsNoSegment, IsSegmentOf};
 ghost use Rattle.pk_values.specs.declared.cells.Value.{Value};
 ghost use Rattle.segment_read.specs.Blocks.{AreTheRows, BlockShown, IsRowOf};
 ghost use Rattle.segment_read.specs.Footers.{FooterShown, HasFooter};
-ghost use Rattle.segment_read.specs.Reads.{block_in, HasFailed, HasRead, IsDamage, KnowsFooter, OfBlock, OnDamage, Reading, Told};
+ghost use Rattle.segment_read.specs.Reads.{block_in, HasFailed, HasRead, IsDamage, KnowsFooter, OfBlock, OnDamage, Reading, OfFile};
 
 use crate::blocks::read_block;
 use crate::faults::{PartFault, fault_of};
@@ -48,11 +48,12 @@ fn block_rows<R: SealedReader>(
     number: u64,
     b: u32,
 ) -> Result<Vec<Row>, ReadFault>
-    requires { Told (R.view reader.old) (λ file. mark.now.place + mark.now.length + 32 ≤ length file) }
-    ensures rows { IfOk result (λ rows. Told (R.view reader.old) (λ file. AreTheRows schema.now mark.now (block_in file mark.now) rows.items)) }
+    requires { OfFile (R.view reader.old) (λ file. mark.now.place + mark.now.length + 32 ≤ length file) }
+    ensures rows { IfOk result (λ rows. OfFile (R.view reader.old) (λ file. AreTheRows schema.now mark.now (block_in file mark.now) rows.items)) }
+    ensures count { IfOk result (λ rows. length rows.items ≡ mark.now.rows) }
     ensures fit { IfOk result (λ rows. All (λ row. IsTrue (fits_row schema.now row)) rows.items) }
     ensures rise { IfOk result (λ rows. KeysRise schema.now rows.items) }
-    ensures damaged { IfErr result (λ e. OnDamage e (IsDamage number (part.Block b) (λ shown. Told (R.view reader.old) (λ file. BlockShown schema.now mark.now (block_in file mark.now) shown)))) }
+    ensures damaged { IfErr result (λ e. OnDamage e (IsDamage number (part.Block b) (λ shown. OfFile (R.view reader.old) (λ file. BlockShown schema.now mark.now (block_in file mark.now) shown)))) }
     ensures reading { Reading 1 (R.view reader.old) (R.view reader.new) result }
 {
     let part = Part::Block(b);
@@ -80,16 +81,22 @@ pub fn block<R: SealedReader>(
 ) -> Result<Vec<Row>, ReadFault>
     requires footer { KnowsFooter schema.now (R.view segment.old.reader) segment.old.footer }
     requires there { b < length segment.old.footer.blocks }
-    ensures rows { IfOk result (λ rows. Told (R.view segment.old.reader) (λ file. OfBlock segment.old.footer b (λ mark.
+    ensures rows { IfOk result (λ rows. OfFile (R.view segment.old.reader) (λ file. OfBlock segment.old.footer b (λ mark.
         AreTheRows schema.now mark (block_in file mark) rows.items))) }
 
     // Of the file of a segment, that block of the segment's rows.
-    ensures of_segment { IfOk result (λ found. Told (R.view segment.old.reader) (λ file. (rows : List (List Value)) → IsSegmentOf schema.now segment.old.footer file rows
+    ensures of_segment { IfOk result (λ found. OfFile (R.view segment.old.reader) (λ file. (rows : List (List Value)) → IsSegmentOf schema.now segment.old.footer file rows
         → slice_get (blocks_of rows) b ≡ Some found.items)) }
+
+    // As many as the footer tells, whatever the reader tells.
+    ensures count { IfOk result (λ rows. OfBlock segment.old.footer b (λ mark. length rows.items ≡ mark.rows)) }
     ensures fit { IfOk result (λ rows. All (λ row. IsTrue (fits_row schema.now row)) rows.items) }
     ensures rise { IfOk result (λ rows. KeysRise schema.now rows.items) }
     ensures damaged { IfErr result (λ e. OnDamage e (IsDamage segment.old.number (part.Block b) (λ shown.
-        Told (R.view segment.old.reader) (λ file. OfBlock segment.old.footer b (λ mark. BlockShown schema.now mark (block_in file mark) shown))))) }
+        OfFile (R.view segment.old.reader) (λ file. OfBlock segment.old.footer b (λ mark. BlockShown schema.now mark (block_in file mark) shown))))) }
+
+    // No damage is told of the file of a segment.
+    ensures intact { IfErr result (λ e. OnDamage e (λ damaged. OfFile (R.view segment.old.reader) (IsNoSegment schema.now segment.old.footer))) }
     ensures reading { Reading 1 (R.view segment.old.reader) (R.view segment.new.reader) result }
     ensures number { segment.new.number ≡ segment.old.number }
     ensures kept { segment.new.footer ≡ segment.old.footer }
@@ -117,11 +124,19 @@ pub fn attach<R: SealedReader>(
     ensures footer { IfOk result (λ segment. KnowsFooter schema.now (R.view segment.reader) segment.footer) }
 
     // A file has no other footer.
-    ensures only { IfOk result (λ segment. Told (R.view reader) (λ file. (f : Footer) → HasFooter schema.now f file → segment.footer ≡ f)) }
+    ensures only { IfOk result (λ segment. OfFile (R.view reader) (λ file. (f : Footer) → HasFooter schema.now f file → segment.footer ≡ f)) }
+
+    // The file of rows has their footer.
+    ensures of_segment { IfOk result (λ segment. OfFile (R.view reader) (λ file. (rows : List (List Value)) → IsFileOf schema.now file rows → IsSegmentOf schema.now segment.footer file rows)) }
     ensures attached { IfOk result (λ segment. HasRead 2 (R.view reader) (R.view segment.reader)) }
-    ensures damaged { IfErr result (λ e. OnDamage e.1 (IsDamage number part.Footer (λ shown. Told (R.view reader) (λ file. FooterShown schema.now file shown)))) }
+    ensures damaged { IfErr result (λ e. OnDamage e.1 (IsDamage number part.Footer (λ shown. OfFile (R.view reader) (λ file. FooterShown schema.now file shown)))) }
+
+    // No damage is told of the file of rows.
+    ensures intact { IfErr result (λ e. OnDamage e.1 (λ damaged. OfFile (R.view reader) (IsNoFile schema.now))) }
     ensures refused { IfErr result (λ e. HasFailed 2 (R.view reader) (R.view e.0) e.1) }
 {
+    // No schema has a fault, so the file of rows has a footer that fits.
+    let _columns = schema.columns();
     match read_tail(alloc, schema, &mut reader, number) {
         Ok(footer) => Ok(Segment {
             number,
@@ -132,15 +147,12 @@ pub fn attach<R: SealedReader>(
     }
 }
 
-// The row in a place, where there is one.
-fn take_row(mut rows: Vec<Row>, place: usize) -> Option<Row>
-    ensures { result ≡ slice_get rows.items place }
+// The row in a place.
+fn take_row(mut rows: Vec<Row>, place: usize) -> Row
+    requires { place < length rows.items }
+    ensures { slice_get rows.items place ≡ Some result }
 {
-    if place < rows.len() {
-        Some(rows.swap_remove(place))
-    } else {
-        None
-    }
+    rows.swap_remove(place)
 }
 
 /// The row in place `row`, counted from 0, by one read of its block.
@@ -155,30 +167,25 @@ pub fn row_at<R: SealedReader>(
 ) -> Result<Row, ReadFault>
     requires footer { KnowsFooter schema.now (R.view segment.old.reader) segment.old.footer }
     requires there { row < segment.old.footer.rows }
-    ensures row { IfOk result (λ found. Told (R.view segment.old.reader) (λ file. OfBlock segment.old.footer (row / 1024) (λ mark.
+    ensures row { IfOk result (λ found. OfFile (R.view segment.old.reader) (λ file. OfBlock segment.old.footer (row / 1024) (λ mark.
         IsRowOf schema.now mark (block_in file mark) (row % 1024) found))) }
 
     // Of the file of a segment, that row of the segment.
-    ensures of_segment { IfOk result (λ found. Told (R.view segment.old.reader) (λ file. (rows : List (List Value)) → IsSegmentOf schema.now segment.old.footer file rows
+    ensures of_segment { IfOk result (λ found. OfFile (R.view segment.old.reader) (λ file. (rows : List (List Value)) → IsSegmentOf schema.now segment.old.footer file rows
         → slice_get rows row ≡ Some found)) }
     ensures fit { IfOk result (λ found. IsTrue (fits_row schema.now found)) }
     ensures damaged { IfErr result (λ e. OnDamage e (IsDamage segment.old.number (part.Block (row / 1024)) (λ shown.
-        Told (R.view segment.old.reader) (λ file. OfBlock segment.old.footer (row / 1024) (λ mark. BlockShown schema.now mark (block_in file mark) shown))))) }
+        OfFile (R.view segment.old.reader) (λ file. OfBlock segment.old.footer (row / 1024) (λ mark. BlockShown schema.now mark (block_in file mark) shown))))) }
+
+    // No damage is told of the file of a segment.
+    ensures intact { IfErr result (λ e. OnDamage e (λ damaged. OfFile (R.view segment.old.reader) (IsNoSegment schema.now segment.old.footer))) }
     ensures reading { Reading 1 (R.view segment.old.reader) (R.view segment.new.reader) result }
     ensures number { segment.new.number ≡ segment.old.number }
     ensures kept { segment.new.footer ≡ segment.old.footer }
     ensures known { KnowsFooter schema.now (R.view segment.new.reader) segment.new.footer }
 {
-    let b = row / 1024;
-    let rows = block(alloc, schema, segment, b)?;
-    match take_row(rows, (row % 1024) as usize) {
-        Some(row) => Ok(row),
-        None => Err(fault_of(
-            segment.number,
-            Part::Block(b),
-            PartFault::Damaged(Shown::Form),
-        )),
-    }
+    let rows = block(alloc, schema, segment, row / 1024)?;
+    Ok(take_row(rows, (row % 1024) as usize))
 }
 
 impl<R: SealedReader> Segment<R> {

@@ -1,4 +1,2 @@
-pub mod SameRows
-pub mod NoDamage
 pub mod Reading
 pub mod Steps

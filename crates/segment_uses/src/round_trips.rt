@@ -8,7 +8,7 @@ ghost use Rattle.dev_traits.specs.declared.faults.OutsideFault.TheVariants as ou
 ghost use Rattle.dev_traits.specs.declared.faults.Part.TheVariants as part;
 ghost use Rattle.dev_traits.specs.declared.faults.ReadFault.TheVariants as read;
 ghost use Rattle.segment_form.specs.Segments.{AreSegmentRows, segment_file};
-ghost use Rattle.segment_read.specs.Reads.{Told as FileTold};
+ghost use Rattle.segment_read.specs.Reads.{OfFile};
 
 use dev_traits::{FileMaker, MakeFault, OutsideFault, ReadFault, SealedReader, Store};
 use pk_values::{Row, Schema};
@@ -70,13 +70,11 @@ fn read_rows<R: SealedReader>(
     _rows: &[Row],
 ) -> (R, Result<Vec<Row>, ReadFault>)
     requires { AreSegmentRows schema.now _rows.now }
-    ensures same { IfOk result.1 (λ found. FileTold (R.view reader) (λ file. file ≡ segment_file schema.now _rows.now → found.items ≡ _rows.now)) }
-    ensures damage { (damaged : Damaged) → IsErrOf result.1 (read.Damaged damaged) → FileTold (R.view reader) (λ file. file ≢ segment_file schema.now _rows.now) }
+    ensures same { IfOk result.1 (λ found. OfFile (R.view reader) (λ file. file ≡ segment_file schema.now _rows.now → found.items ≡ _rows.now)) }
+    ensures damage { (damaged : Damaged) → IsErrOf result.1 (read.Damaged damaged) → OfFile (R.view reader) (λ file. file ≢ segment_file schema.now _rows.now) }
     ensures place { (damaged : Damaged) → IsErrOf result.1 (read.Damaged damaged) → (damaged.file ≡ number) × ((damaged.part ≡ part.Footer) ⊎ ((b : ℕ) × (damaged.part ≡ part.Block b))) }
     ensures cause { HasReadCause (R.view reader).faults (R.view result.0).faults result.1 }
 {
-    // No schema has a fault.
-    let _columns = schema.columns();
     match attach(alloc, schema, number, reader) {
         Ok(mut segment) => {
             let found = rows_of(alloc, schema, &mut segment);

@@ -1,7 +1,7 @@
 use Rattle.std.proofs.Common.{◌-◌, ◌∙◌, refl}
 use Rattle.dev_traits.specs.declared.faults.Part.TheVariants as part
 use Rattle.segment_read.specs.Footers.{FooterShown, TailShown}
-use Rattle.segment_read.specs.Reads.{Told}
+use Rattle.segment_read.specs.Reads.{OfFile}
 use Rattle.segment_read.proofs.TailFacts.{damage_of, footer_read, footer_there, no_tail, tail_read, tail_shown}
 use Rattle.segment_read.proofs.footers.read_tail.Goals as goal
 
@@ -30,7 +30,7 @@ pub returns-clause-damaged : goal.returns-clause-damaged
 returns-clause-damaged g c =
     rw c.fault_of-in-Err.ensures (damage_of c.args.number part.Footer c.in-Err.fault
     (TailShown c.args.schema.now (c.length-size.result - 4 - c.from.result) (c.in-Some.len - 32) c.deref.result.now)
-    (λ shown. Told (g.R.SealedReader.view c.args.reader.now) (λ file. FooterShown c.args.schema.now file shown))
+    (λ shown. OfFile (g.R.SealedReader.view c.args.reader.now) (λ file. FooterShown c.args.schema.now file shown))
     (λ shown shows file told.
     let size = g.met.R.SealedReader.size_is_told c.args.reader.now file told in
     let tail = tail_read file c.deref.result.now c.in_ok-bytes.bytes.items c.length-size.result c.from.result c.in-Some.len _

@@ -1,9 +1,9 @@
 -- No damage is told of the file of a segment.
-use Rattle.std.proofs.Common.{◌≡◌, ◌⊎◌, inl, inr, ℕ, zero, suc, ◌+◌, ◌<◌, List, [], ◌∷◌, ◌++◌, length, take, drop, refl, sym, ap, ◌∙◌, subst, append_assoc, arith, slice_get, Some, length-append}
+use Rattle.std.proofs.Common.{◌≡◌, ◌⊎◌, inl, inr, ℕ, zero, suc, ◌+◌, ◌<◌, List, [], ◌∷◌, ◌++◌, length, take, drop, refl, sym, ap, ◌∙◌, subst, append_assoc, arith, slice_get, Some, None, Ok, Err, IfErr, Result, length-append}
 use Rattle.std.proofs.lemmas.List.{drop_at, take_at}
 use Rattle.sha2.specs.Sha256.{sha256}
 use Rattle.sha2.proofs.Facts256.{length-sha256}
-use Rattle.pk_values.specs.Schemas.{Layout}
+use Rattle.pk_values.specs.Schemas.{Layout, schema_fault}
 use Rattle.pk_values.specs.declared.cells.Value.{Value}
 use Rattle.column_page.specs.Footers.{footer_body}
 use Rattle.column_page.specs.declared.footers.BlockMark.{BlockMark}
@@ -11,18 +11,22 @@ use Rattle.column_page.specs.declared.footers.Footer.{Footer}
 use Rattle.dev_traits.specs.Reader.{ReaderView}
 use Rattle.dev_traits.specs.declared.faults.Damaged.{Damaged}
 use Rattle.dev_traits.specs.declared.faults.Digest.{Digest}
+use Rattle.dev_traits.specs.declared.faults.Part.TheVariants as part
+use Rattle.dev_traits.specs.declared.faults.ReadFault.{ReadFault}
+use Rattle.dev_traits.specs.declared.faults.ReadFault.TheVariants as read
 use Rattle.dev_traits.specs.declared.faults.Shown.{Shown}
 use Rattle.dev_traits.specs.declared.faults.Shown.TheVariants.{Digests, Form, Absent}
 use Rattle.segment_form.specs.Segments.{block_body, block_marks, blocks_of, footer_of, segment_file, AreSegmentRows, KeysRise}
 use Rattle.segment_read.specs.Blocks.{AreBlockRows, BlockShown}
 use Rattle.segment_read.specs.Footers.{FooterShown, HasFooter}
-use Rattle.segment_read.specs.Reads.{block_in}
-use Rattle.segment_read.specs.Rows.{FailsAt, FallsBack, IsRowsDamage}
-use Rattle.segment_read.proofs.Intact.{block_there}
+use Rattle.segment_read.specs.Reads.{block_in, IsDamage, OfBlock, OfFile, OnDamage}
+use Rattle.segment_read.specs.Rows.{FailsAt, FallsBack, IsFileOf, IsNoFile, IsNoSegment, IsRowsDamage, IsSegmentOf}
+use Rattle.segment_read.proofs.Intact.{block_there, has_its_footer}
 use Rattle.segment_read.proofs.TailFacts.{only_tail, tail_of_footer, tail_parts}
-use Rattle.segment_form.proofs.Blocks.{length-block_marks}
+use Rattle.segment_form.proofs.Blocks.{length-block_marks, segment_footer_fits, segment_is_footer}
 use Rattle.segment_form.proofs.RowsInBlocks.{all_joined}
-use Rattle.segment_uses.proofs.SameRows.{rows_in, same_before}
+use Rattle.segment_read.proofs.SameRows.{same_before}
+use Rattle.segment_read.proofs.Whole.{rows_in}
 
 same_digest : (a b : Digest) → a.bytes ≡ b.bytes → a ≡ b
 same_digest a b e = let digest : List ℕ → Digest = λ bytes. record { bytes = bytes } in ap digest e
@@ -109,3 +113,43 @@ no_rows_damage s rows number reader damaged are told damage =
     neither (no_block_damage s mark.0 (block_in file mark.0) block.0 damaged.shown is)
     (no_fall s rows n mark.0 block.0 fails.before damaged.shown are is block.1 (same_before s rows n fails.before are fails.are))
     (fails.shows mark.0 mark.1)
+
+-- ---- what is told as damage isn't of the file of a segment
+
+pub block_undamaged : (s : Layout) (f : Footer) (number b : ℕ) (reader : ReaderView) (e : ReadFault) → b < length f.blocks
+    → OnDamage e (IsDamage number (part.Block b) (λ shown. OfFile reader (λ file. OfBlock f b (λ mark. BlockShown s mark (block_in file mark) shown))))
+    → OnDamage e (λ _. OfFile reader (IsNoSegment s f))
+block_undamaged s f number b reader (read.Damaged damaged) lt damage = λ file told rows is.
+    let marks : f.blocks ≡ block_marks s 0 (blocks_of rows) = ap (λ (x : Footer). x.blocks) is.footer_is in
+    let mark = got_mark f.blocks b lt in
+    let block = got_block (blocks_of rows) b (omega (arith, ap length marks, length-block_marks s 0 (blocks_of rows))) in
+    let its = block_there s rows b mark.0 block.0 is.are (ap (λ (ms : List BlockMark). slice_get ms b) (sym marks) ∙ mark.1) block.1 in
+    no_block_damage s mark.0 (block_in file mark.0) block.0 damaged.shown (subst (λ (bytes : List ℕ). AreBlockRows s mark.0 (block_in bytes mark.0) block.0) (sym is.file_is) its)
+    (damage.shows file told mark.0 mark.1)
+block_undamaged s f number b reader read.StoreFault lt damage = tt
+block_undamaged s f number b reader read.Memory lt damage = tt
+
+pub rows_undamaged : (s : Layout) (f : Footer) (number : ℕ) (reader : ReaderView) (e : ReadFault) → OnDamage e (IsRowsDamage s f number reader) → OnDamage e (λ _. OfFile reader (IsNoSegment s f))
+rows_undamaged s f number reader (read.Damaged damaged) damage = λ file told rows is.
+    no_rows_damage s rows number reader damaged is.are (told ∙ ap Some is.file_is) (subst (λ (x : Footer). IsRowsDamage s x number reader damaged) is.footer_is damage)
+rows_undamaged s f number reader read.StoreFault damage = tt
+rows_undamaged s f number reader read.Memory damage = tt
+
+-- the file of rows has their footer
+pub its_footer : (s : Layout) (file : List ℕ) (rows : List (List Value)) → schema_fault s.columns s.keys ≡ None → IsFileOf s file rows → HasFooter s (footer_of s rows) file
+its_footer s file rows lawful is = subst (λ (bytes : List ℕ). HasFooter s (footer_of s rows) bytes) (sym is.file_is)
+    (has_its_footer s rows (segment_footer_fits s rows lawful is.are) (segment_is_footer s rows lawful is.are))
+
+pub footer_of_segment : (s : Layout) (file : List ℕ) (f : Footer) (rows : List (List Value)) → schema_fault s.columns s.keys ≡ None → ((other : Footer) → HasFooter s other file → f ≡ other) → IsFileOf s file rows → IsSegmentOf s f file rows
+footer_of_segment s file f rows lawful only is = record { are = is.are; footer_is = only (footer_of s rows) (its_footer s file rows lawful is); file_is = is.file_is }
+
+pub footer_undamaged : (s : Layout) (number : ℕ) (reader : ReaderView) (e : ReadFault) → schema_fault s.columns s.keys ≡ None
+    → OnDamage e (IsDamage number part.Footer (λ shown. OfFile reader (λ file. FooterShown s file shown))) → OnDamage e (λ _. OfFile reader (IsNoFile s))
+footer_undamaged s number reader (read.Damaged damaged) lawful damage = λ file told rows is.
+    no_footer_damage s (footer_of s rows) file damaged.shown (its_footer s file rows lawful is) (damage.shows file told)
+footer_undamaged s number reader read.StoreFault lawful damage = tt
+footer_undamaged s number reader read.Memory lawful damage = tt
+
+pub if_err_so : {T E : Type 0} (result : Result T E) (P Q : E → Type 0) → ((e : E) → P e → Q e) → IfErr result P → IfErr result Q
+if_err_so (Ok x) P Q f p = tt
+if_err_so (Err e) P Q f p = f e p

@@ -1,21 +1,18 @@
 -- The rows that are read from the file of a segment are those that it was made of.
-use Rattle.std.proofs.Common.{◌≡◌, ℕ, zero, suc, List, [], ◌∷◌, length, take, refl, sym, ap, ◌∙◌, arith, slice_get, Some}
-use Rattle.std.specs.List.{flat_map}
+use Rattle.std.proofs.Common.{◌≡◌, ℕ, zero, suc, List, [], ◌∷◌, length, take, refl, sym, subst, ap, ◌∙◌, arith, slice_get, Some}
 use Rattle.std.proofs.lemmas.List.{take_all}
 use Rattle.pk_values.specs.Schemas.{Layout}
 use Rattle.pk_values.specs.declared.cells.Value.{Value}
 use Rattle.column_page.specs.declared.footers.BlockMark.{BlockMark}
+use Rattle.column_page.specs.declared.footers.Footer.{Footer}
 use Rattle.segment_form.specs.Segments.{block_marks, blocks_of, footer_of, segment_file, AreSegmentRows}
 use Rattle.segment_read.specs.Blocks.{AreBlockRows}
 use Rattle.segment_read.specs.Reads.{block_in}
-use Rattle.segment_read.specs.Rows.{AreBlocks, AreRowsBefore}
+use Rattle.segment_read.specs.Rows.{AreBlocks, AreRowsBefore, IsSegmentOf}
 use Rattle.segment_form.proofs.Blocks.{length-block_marks}
 use Rattle.segment_form.proofs.RowsInBlocks.{all_joined}
 use Rattle.segment_read.proofs.Intact.{block_there}
-
--- the rows of blocks
-abbrev pub rows_in : List (List (List Value)) → List (List Value)
-rows_in bs = flat_map (λ b. b) bs
+use Rattle.segment_read.proofs.Whole.{rows_in}
 
 -- the marks tell of these blocks
 abbrev pub TellOf : Layout → List ℕ → List BlockMark → List (List (List Value)) → Type 0
@@ -46,3 +43,9 @@ same_rows s rows found are before =
     let n = length (block_marks s 0 (blocks_of rows)) in
     let counted : n ≡ length (blocks_of rows) = length-block_marks s 0 (blocks_of rows) in
     same_before s rows n found are before ∙ ap (λ (bs : List (List (List Value))). rows_in bs) (take_all n (blocks_of rows) (omega arith)) ∙ all_joined rows
+
+-- the rows that are read of a segment's file are the segment's
+pub rows_of_segment : (s : Layout) (f : Footer) (file : List ℕ) (rows found : List (List Value)) → IsSegmentOf s f file rows → AreRowsBefore s f file (length f.blocks) found → found ≡ rows
+rows_of_segment s f file rows found is before =
+    let its = subst (λ (x : Footer). AreRowsBefore s x file (length x.blocks) found) is.footer_is before in
+    same_rows s rows found is.are (subst (λ (bytes : List ℕ). AreRowsBefore s (footer_of s rows) bytes (length (footer_of s rows).blocks) found) is.file_is its)
