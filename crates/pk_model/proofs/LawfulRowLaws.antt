@@ -218,6 +218,7 @@ new-lawful s = record { kept = λ v m e. by (v - 0) m (sym (kept new_book v (ome
   where
     empty-lawful : AreLawfulRows s (fin.empty {R = key_cmp})
     empty-lawful key row e = none-some row _ (sym (fin.get-empty key_cmp key) ∙ e)
+
     by : (i : ℕ) (m : Rows) → slice_get (fin.empty {R = key_cmp} ∷ []) i ≡ Some m → AreLawfulRows s m
     by zero m e = subst (AreLawfulRows s) (same_Some _ m e) empty-lawful
     by (suc i) m e = none-some m _ e
