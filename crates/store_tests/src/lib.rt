@@ -10,6 +10,7 @@ mod host;
 mod logs;
 #[cfg(test)]
 mod memory;
+pub mod sent;
 #[cfg(test)]
 mod stores;
 #[cfg(test)]

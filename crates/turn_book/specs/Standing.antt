@@ -1,4 +1,4 @@
--- An entry that stands at a place of a history, whose places are numbered from 1.
+-- An entry that stands at a place of a history, whose places are numbered from 1: so a pass has seen this entry at its place.
 use Rattle.std.specs.Prelude.{◌≡◌, ℕ, ◌+◌, List, [], ◌∷◌, ◌++◌, length}
 use Rattle.std.proofs.Common.{refl, sym, ap, ◌∙◌, append_assoc, arith, length-append, subst}
 use mathlib.Core.List.{IsPrefix}
