@@ -1,0 +1,134 @@
+use case_texts::text_of;
+use command_line::{WordsFault, read_words, text_for};
+use dev_memory::{MemInputs, MemSink};
+use pk_values::Octets;
+use std::alloc::{AllocError, Global};
+use tablet_run::run;
+
+/// What the inputs `t`, `s` and `a` hold, which of their takes and which puts fail, and why the last run ended.
+#[derive(Drop)]
+pub struct Runs {
+    table: Vec<u8>,
+    script: Vec<u8>,
+    file: Option<Vec<u8>>,
+    input_fails: Vec<u64>,
+    put_fails: Vec<u64>,
+    cause: String,
+}
+
+fn entry(alloc: Global, name: &str, bytes: &[u8]) -> Result<(Octets, Octets), AllocError> {
+    let name = Octets::from_slice(alloc, name.as_bytes())?;
+    let bytes = Octets::from_slice(alloc, bytes)?;
+    Ok((name, bytes))
+}
+
+impl Runs {
+    pub fn new(alloc: Global) -> Runs {
+        Runs {
+            table: Vec::new(alloc),
+            script: Vec::new(alloc),
+            file: None,
+            input_fails: Vec::new(alloc),
+            put_fails: Vec::new(alloc),
+            cause: String::new(alloc),
+        }
+    }
+
+    /// `t BYTES`, `s BYTES` and `a BYTES`: what an input holds.
+    pub fn file(
+        &mut self,
+        alloc: Global,
+        name: &str,
+        bytes: Vec<u8>,
+    ) -> Result<String, AllocError> {
+        let told = format!(in alloc; "{}", bytes.len())?;
+        match name {
+            "t" => self.table = bytes,
+            "s" => self.script = bytes,
+            _ => self.file = Some(bytes),
+        }
+        Ok(told)
+    }
+
+    /// `no-a`: there is no input `a`.
+    pub fn forget(&mut self, alloc: Global) -> Result<String, AllocError> {
+        self.file = None;
+        "gone".to_string(alloc)
+    }
+
+    /// `fails take NUMBER`, `fails put NUMBER` and `fails none`: which call fails.
+    pub fn fails(&mut self, alloc: Global, words: &str) -> Result<String, AllocError> {
+        let (call, number) = words.split_once(' ').unwrap_or((words, ""));
+        match (call, number.parse::<u64>()) {
+            ("take", Ok(number)) => self.input_fails.push(number)?,
+            ("put", Ok(number)) => self.put_fails.push(number)?,
+            _ => {
+                self.input_fails.clear();
+                self.put_fails.clear();
+            }
+        }
+        format!(in alloc;
+            "{:?} {:?}",
+            self.input_fails.as_slice(),
+            self.put_fails.as_slice()
+        )
+    }
+
+    fn inputs(&self, alloc: Global) -> Result<MemInputs, AllocError> {
+        let mut files = Vec::new(alloc);
+        files.push(entry(alloc, "t", &self.table)?)?;
+        files.push(entry(alloc, "s", &self.script)?)?;
+        if let Some(file) = &self.file {
+            files.push(entry(alloc, "a", file)?)?;
+        }
+        let fails = Vec::from_slice(alloc, &self.input_fails)?;
+        Ok(MemInputs::new(files, fails))
+    }
+
+    /// `run WORDS`: the status of a run of these words over the inputs, and what was put into a sink that takes four bytes a put.
+    pub fn run(&mut self, alloc: Global, words: &str) -> Result<String, AllocError> {
+        let words: Vec<&str> = words.split(' ').collect(alloc)?;
+        let mut inputs = self.inputs(alloc)?;
+        let mut out = MemSink::new(alloc, 4, Vec::from_slice(alloc, &self.put_fails)?);
+        let ended = run(alloc, &words, &mut inputs, &mut out);
+        self.cause = format!(in alloc; "{}", ended.cause)?;
+        let put = text_of(alloc, out.written())?;
+        format!(in alloc; "{} {put}", ended.status)
+    }
+
+    /// `cause TEXT`: whether the cause of the last run begins so.
+    pub fn cause(&self, alloc: Global, words: &str) -> Result<String, AllocError> {
+        if self.cause.as_str().starts_with(words) {
+            "yes".to_string(alloc)
+        } else {
+            format!(in alloc; "{}", self.cause)
+        }
+    }
+}
+
+/// `words WORDS`: the table and the script that words name.
+pub fn words(alloc: Global, words: &str) -> Result<String, AllocError> {
+    let words: Vec<&str> = words.split(' ').collect(alloc)?;
+    match read_words(alloc, &words) {
+        Ok(files) => format!(in alloc; "table {} script {}", files.table, files.script),
+        Err(WordsFault::Words) => "refused".to_string(alloc),
+        Err(WordsFault::Memory) => Err(AllocError),
+    }
+}
+
+/// `help WORD PART`: whether a part stands in the text that a word asks for.
+pub fn help(alloc: Global, words: &str) -> Result<String, AllocError> {
+    let (word, part) = words.split_once(' ').unwrap_or((words, ""));
+    match text_for(alloc, word)? {
+        Some(text) => format!(in alloc; "{}", text.as_str().contains(part)),
+        None => "asks for nothing".to_string(alloc),
+    }
+}
+
+/// `version WORD`: the text that a word asks for.
+pub fn version(alloc: Global, words: &str) -> Result<String, AllocError> {
+    match text_for(alloc, words)? {
+        Some(text) => text_of(alloc, text.as_bytes()),
+        None => "asks for nothing".to_string(alloc),
+    }
+}
