@@ -326,7 +326,7 @@ fn files_of(alloc: Global, entries: Vec<(u64, Octets)>) -> Result<Vec<File>, Mem
 {
     let mut files = Vec::new(alloc);
     for (number, text) in entries {
-        let bytes = SharedBytes::new(alloc, text.into_vec())?;
+        let bytes = SharedBytes::new(alloc, text.into_vec(alloc)?)?;
         files.push(File {
             number,
             bytes,
@@ -354,9 +354,9 @@ impl MemStore {
         ensures listed { IfOk result (λ store. Lists faults store) }
     {
         let mut areas = Vec::new(alloc);
-        areas.push(Octets::from_vec(Vec::new(alloc)))?;
-        areas.push(Octets::from_vec(Vec::new(alloc)))?;
-        areas.push(Octets::from_vec(Vec::new(alloc)))?;
+        areas.push(Octets::from_slice(alloc, b"")?)?;
+        areas.push(Octets::from_slice(alloc, b"")?)?;
+        areas.push(Octets::from_slice(alloc, b"")?)?;
         let files = Vec::new(alloc);
         MemStore::of_image(alloc, Image { areas, files }, faults)
     }

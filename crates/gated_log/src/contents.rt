@@ -30,7 +30,7 @@ fn body<S: Store>(
 {
     let mut bytes = vec![in alloc; 0u8; (gate - at - 9) as usize]?;
     store.read(area, at + 9, &mut bytes)?;
-    Ok(Octets::from_vec(bytes))
+    Ok(Octets::from_vec(alloc, bytes)?)
 }
 
 /// The bodies of an area's log, in their order. It writes nothing.

@@ -79,9 +79,9 @@ fn image_of(alloc: Global, file: Octets) -> Result<Image, AllocError>
     ensures { IfOk result (λ image. length image.areas.items ≡ 3) }
 {
     let mut areas = Vec::new(alloc);
-    areas.push(Octets::from_vec(Vec::new(alloc)))?;
-    areas.push(Octets::from_vec(Vec::new(alloc)))?;
-    areas.push(Octets::from_vec(Vec::new(alloc)))?;
+    areas.push(Octets::from_slice(alloc, b"")?)?;
+    areas.push(Octets::from_slice(alloc, b"")?)?;
+    areas.push(Octets::from_slice(alloc, b"")?)?;
     let mut files = Vec::new(alloc);
     files.push((2, file))?;
     Ok(Image { areas, files })

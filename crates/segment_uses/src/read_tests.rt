@@ -24,7 +24,7 @@ fn other_digest() -> [u8; 32] {
 
 // A reader of the file of one row, which fails at the listed reads.
 fn one_row_reader(rt: &impl Abort, alloc: Global, fails: &[u64]) -> Result<MemReader, Fail> {
-    reader_of(rt, alloc, Octets::from_vec(one_row::file(alloc)?), fails)
+    reader_of(rt, alloc, Octets::from_vec(alloc, one_row::file(alloc)?)?, fails)
 }
 
 fn is_the_row(row: &Row) -> bool {

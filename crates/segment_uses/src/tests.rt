@@ -26,7 +26,7 @@ fn file_of(rt: &impl Abort, alloc: Global, schema: &Schema, rows: &[Row]) -> Res
     assert!(rt; are_segment_rows(schema, rows));
     let mut maker = Keeper::new(alloc, 0);
     let made = write_segment(alloc, &mut maker, schema, rows)?;
-    Ok(Octets::from_vec(made.sealed))
+    Ok(Octets::from_vec(alloc, made.sealed)?)
 }
 
 fn reads_all<R: SealedReader>(

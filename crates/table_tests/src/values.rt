@@ -159,8 +159,8 @@ fn items_and_octets(rt: HostRuntime) -> Result<(), AllocError> {
     items.push(5u8)?;
     items.reserve(1)?;
     assert!(rt; items.len() == 1 && items.as_slice() == [5].as_slice());
-    let octets = Octets::from_vec(Items::from_vec(items.into_vec()).into_vec()).copy(alloc)?;
-    assert!(rt; octets.into_vec().as_slice() == [5].as_slice());
+    let octets = Octets::from_vec(alloc, Items::from_vec(items.into_vec()).into_vec())?.copy(alloc)?;
+    assert!(rt; octets.as_slice() == [5].as_slice());
     Ok(())
 }
 
