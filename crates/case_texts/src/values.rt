@@ -42,7 +42,7 @@ pub fn value_of(alloc: Global, text: &str) -> Result<Option<Value>, AllocError> 
         Some(("num", number)) => Ok(number.parse::<i128>().ok().map(Value::Num)),
         Some(("day", day)) => Ok(day.parse::<i32>().ok().map(Value::Day)),
         Some(("text", text)) => {
-            let bytes = Octets::from_vec(bytes_of(alloc, text)?);
+            let bytes = Octets::from_vec(alloc, bytes_of(alloc, text)?)?;
             Ok(Some(Value::Text(bytes)))
         }
         Some(_) => Ok(None),

@@ -107,5 +107,5 @@ pub fn write_footer(alloc: Global, footer: &Footer) -> Result<Octets, AllocError
     put_body(&mut out, footer.fields())?;
     let digest: [u8; 32] = Sha256::digest(out.as_slice());
     out.extend_from_slice(&digest)?;
-    Ok(Octets::from_vec(out))
+    Octets::from_vec(alloc, out)
 }

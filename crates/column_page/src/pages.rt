@@ -58,7 +58,7 @@ pub fn encode_page(alloc: Global, column: &Column, cells: &[Value]) -> Result<Oc
     let plain = plain_page(alloc, &texts)?;
     let runs = run_page(alloc, &texts)?;
     let page = with_dictionary(alloc, shorter_of(plain, runs), &texts)?;
-    Ok(Octets::from_vec(page))
+    Octets::from_vec(alloc, page)
 }
 
 // The cells that the bytes are the page of, if any cells have this page.

@@ -15,7 +15,7 @@ fn cell_text(alloc: Global, column: &Column, value: &Value) -> Result<Octets, Al
 {
     let mut text = Vec::new(alloc);
     put_cell(&mut text, column, value)?;
-    Ok(Octets::from_vec(text))
+    Octets::from_vec(alloc, text)
 }
 
 /// The bytes of each cell.

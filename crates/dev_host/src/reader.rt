@@ -14,6 +14,7 @@ pub struct HostReader<R: Files> {
     faults: u64,
     reads: u64,
     ghost short: { size ≤ 2 ^ 44 },
+    ghost counted: { reads ≤ 2 ^ 64 - 1 },
 }
 
 impl<R: Files + Clone + Drop> HostReader<R> {
@@ -38,6 +39,8 @@ impl<R: Files + Clone + Drop> SealedReader for HostReader<R> {
     ghost size_is_told = { λ r bytes is. Prim.cc };
 
     ghost size_is_bounded = { λ r. r.short };
+
+    ghost reads_are_bounded = { λ r. r.counted };
 
     fn faults(&self) -> u64 {
         self.faults

@@ -218,6 +218,12 @@ impl<R: Files + AllocGlobal + Clone + Drop> Store for HostStore<R> {
 
     ghost three_areas = { λ s image is. Prim.cc };
 
+    ghost short_now = { λ s image may. absurd may };
+
+    ghost short_since = { λ s t image might. absurd might };
+
+    ghost short_read = { λ s image is. Prim.cc };
+
     ghost honest_reads = { λ s honest. Prim.cc };
 
     ghost honest_files = { λ s honest. Prim.cc };

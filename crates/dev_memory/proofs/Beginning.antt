@@ -8,7 +8,8 @@ use Rattle.std.specs.FinMap.{from_entries}
 use Rattle.dev_traits.specs.Image.{Image, area_of}
 use Rattle.dev_memory.specs.Areas.{AreaView, bytes_in, has_room}
 use Rattle.dev_memory.specs.Disk.{AreaDisk, at_rest, bytes_of, Reaches, disk_now, read_of, IsImage, Held, entries_at, settled_by, is_short, mem_view}
-use Rattle.dev_memory.specs.Kept.{at_first, first_file, held, IsKept}
+use Rattle.dev_memory.specs.Kept.{at_first, first_file, has_short_bytes, held, IsKept}
+use Rattle.dev_memory.specs.Images.{is_short_file}
 use Rattle.dev_memory.specs.Store.{Begins}
 use Rattle.dev_memory.specs.declared.call.File.{File}
 use Rattle.dev_memory.specs.declared.call.Call.{Call}
@@ -24,6 +25,10 @@ rooms-none (area ∷ areas) = and_from _ _ (le-leb 0 area.room (omega arith)) (r
 pub first-settled : (entries : List (ℕ × List ℕ)) → list_all (settled_by 0) (map first_file entries) ≡ true
 first-settled [] = refl
 first-settled (e ∷ entries) = first-settled entries
+
+pub first-short : (entries : List (ℕ × List ℕ)) → list_all is_short_file entries ≡ true → list_all has_short_bytes (map first_file entries) ≡ true
+first-short [] all = refl
+first-short (e ∷ entries) all = let both = and_parts (is_short_file e) (list_all is_short_file entries) all in and_from _ _ both.0 (first-short entries both.1)
 
 pub first-entries : (entries : List (ℕ × List ℕ)) → entries_at 0 (map first_file entries) ≡ entries
 first-entries [] = refl
@@ -46,14 +51,13 @@ begins start entries h spare_calls spare_bytes is = record {
 }
 
 -- before any call all fits
-pub kept-first : (start : List (List ℕ)) (areas : List AreaView) (calls : List Call) (pieces : List ℕ) (files : List File) (rc rf rp : ℕ) → calls ≡ [] → pieces ≡ [] → length start ≡ 3 → list_all is_short start ≡ true → list_all (settled_by 0) files ≡ true
+pub kept-first : (start : List (List ℕ)) (areas : List AreaView) (calls : List Call) (pieces : List ℕ) (files : List File) (rc rf rp : ℕ) → calls ≡ [] → pieces ≡ [] → length start ≡ 3 → list_all is_short start ≡ true → list_all has_short_bytes files ≡ true → list_all (settled_by 0) files ≡ true
     → map bytes_in areas ≡ start → IsKept start areas calls pieces files rc rf rp 0 0
-kept-first start areas calls pieces files rc rf rp no_calls no_pieces three short settled reads =
+kept-first start areas calls pieces files rc rf rp no_calls no_pieces three short short_files settled reads =
     subst (λ (cs : List Call). IsKept start areas cs pieces files rc rf rp 0 0) (sym no_calls)
     (subst (λ (ps : List ℕ). IsKept start areas [] ps files rc rf rp 0 0) (sym no_pieces)
     (record {
-      valid = record { three = three; settled = settled };
-      short = short;
+      valid = record { three = three; short = short; short_files = short_files; settled = settled };
       reads = reads ∙ sym (start-reads start);
       fits = refl;
       rooms = rooms-none areas;

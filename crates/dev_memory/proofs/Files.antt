@@ -12,7 +12,8 @@ use Rattle.std.proofs.Math.Seq.{drop-cons}
 use Rattle.std.proofs.lemmas.List.{take_all, drop_all, append-nil, length-map}
 use Rattle.std.proofs.lemmas.List.Folds.{list_all-append}
 use Rattle.std.proofs.lemmas.Bool.Decides.{nat_tests}
-use Rattle.dev_memory.specs.Disk.{never, stands_at, entries_at, is_in, closed, settled_by}
+use Rattle.dev_memory.specs.Disk.{never, stands_at, entries_at, is_in, is_short, closed, settled_by}
+use Rattle.dev_memory.specs.Kept.{has_short_bytes}
 use Rattle.dev_memory.specs.declared.call.File.{File}
 
 no_truth : true ≡ false → ⊥
@@ -186,6 +187,12 @@ settled-closed keep n now (f ∷ files) is settled =
     go true here = ap (λ k. settled_by k (record f { until = k })) is ∙ settled_closed f.from f.until n here
     go false here = ap (λ k. settled_by k f) is ∙ settled_later f.from f.until n here
 
+pub short-closed : (keep : List ℕ) (now : ℕ) (files : List File) → list_all has_short_bytes files ≡ true → list_all has_short_bytes (map (closed keep now) files) ≡ true
+short-closed keep now [] all = refl
+short-closed keep now (f ∷ files) all =
+    let both = and_parts (has_short_bytes f) (list_all has_short_bytes files) all in
+    and_from _ _ (ap is_short (closed_parts keep now f).1 ∙ both.0) (short-closed keep now files both.1)
+
 settled_new : (from until n : ℕ) → from ≤ n → until ≡ never → (nat_le from n && (nat_le until n || nat_eq until never)) ≡ true
 settled_new from until n le is = grind (arith, nat_tests)
 
@@ -223,6 +230,17 @@ get-revived keep (e ∷ es) files q x out found = go (get-revived keep es files 
     go rest false kept false same =
         get-insert nat_cmp_total (revive keep es files) e.0 e.1 q ∙ ap (λ b. cond b (Some e.1) (get (revive keep es files) q)) same
         ∙ rest (ap (λ b. cond b (Some e.1) (find nat_cmp q es)) (sym same) ∙ found)
+
+pub get-unrevived : (keep : List ℕ) (es : List (ℕ × List ℕ)) (files : Files) (q : ℕ) → find nat_cmp q es ≡ None → get (revive keep es files) q ≡ get files q
+unfolding revive
+get-unrevived keep [] files q none = refl
+get-unrevived keep (e ∷ es) files q none = go (get-unrevived keep es files q) (eq_by_cmp nat_cmp q e.0) refl none (is_in keep e.0)
+  where
+    go : (find nat_cmp q es ≡ None → get (revive keep es files) q ≡ get files q) → (t : Bool) → eq_by_cmp nat_cmp q e.0 ≡ t → cond t (Some e.1) (find nat_cmp q es) ≡ None
+        → (b : Bool) → get (if b then revive keep es files else insert (revive keep es files) e.0 e.1) q ≡ get files q
+    go rest true same none b = absurd (cc)
+    go rest false same none true = rest none
+    go rest false same none false = get-insert nat_cmp_total (revive keep es files) e.0 e.1 q ∙ ap (λ b. cond b (Some e.1) (get (revive keep es files) q)) same ∙ rest none
 
 -- The first file of a number.
 

@@ -1,10 +1,10 @@
 -- What is kept still fits after a call more.
 use Rattle.std.proofs.Common.{◌≡◌, ℕ, ◌+◌, ◌≤◌, ◌<◌, Bool, true, false, List, [], ◌∷◌, ◌++◌, length, get_or, set, map, refl, sym, ◌∙◌, ap, subst, arith, length-append}
 use Rattle.std.specs.List.{list_all}
-use Rattle.dev_traits.specs.Image.{area_of, overwritten}
+use Rattle.dev_traits.specs.Image.{longest, area_of, overwritten}
 use Rattle.dev_memory.specs.Areas.{AreaView, bytes_in, has_room}
-use Rattle.dev_memory.specs.Disk.{Deed, Wrote, Synced, Blanked, ChangedFiles, AreaDisk, deeds, written, at_rest, area_in, wrote, blanked, after, replay, disk_now, read_of, settled_by, bytes_of, most}
-use Rattle.dev_memory.specs.Kept.{held, grown, IsKept, IsValid, KeptView}
+use Rattle.dev_memory.specs.Disk.{Deed, Wrote, Synced, Blanked, ChangedFiles, AreaDisk, deeds, written, at_rest, area_in, wrote, blanked, after, replay, disk_now, read_of, settled_by, bytes_of}
+use Rattle.dev_memory.specs.Kept.{held, grown, has_short_bytes, IsKept, IsValid, KeptView}
 use Rattle.dev_memory.specs.Laws.{three, area_read}
 use Rattle.dev_memory.specs.declared.call.Call.{Call}
 use Rattle.dev_memory.specs.declared.call.Call.TheVariants.{Write, Sync, Blank, OnFiles}
@@ -27,6 +27,8 @@ module _ (start : List (List ℕ)) (areas : List AreaView) (calls : List Call) (
   pub valid_after : (deed : Deed) (calls' : List Call) (pieces' : List ℕ) → deeds pieces' calls' ≡ deeds pieces calls ++ deed ∷ [] → IsValid (held start pieces' calls' files)
   valid_after deed calls' pieces' is = record {
     three = kept.valid.three;
+    short = kept.valid.short;
+    short_files = kept.valid.short_files;
     settled = settled-later (length (deeds pieces calls)) (length (deeds pieces' calls')) files (omega (arith, ap length is, length-append (deeds pieces calls) (deed ∷ []))) kept.valid.settled;
   }
 
@@ -43,7 +45,6 @@ module _ (start : List (List ℕ)) (areas : List AreaView) (calls : List Call) (
       → IsKept start areas' calls' pieces' files rc' rf' rp' sc' sb'
   keep deed areas' calls' pieces' rc' rf' rp' sc' sb' is reads fits rooms for_calls for_files for_pieces = record {
     valid = valid_after deed calls' pieces' is;
-    short = kept.short;
     reads = reads_after deed areas' calls' pieces' files is reads;
     fits = fits;
     rooms = rooms;
@@ -53,14 +54,13 @@ module _ (start : List (List ℕ)) (areas : List AreaView) (calls : List Call) (
   }
 
   -- with other files
-  pub keep_files : (files' : List File) (calls' : List Call) (rc' rf' sc' : ℕ) → calls' ≡ calls ++ OnFiles ∷ [] → list_all (settled_by (length (deeds pieces calls) + 1)) files' ≡ true → sc' ≤ rc' → sc' ≤ rf'
+  pub keep_files : (files' : List File) (calls' : List Call) (rc' rf' sc' : ℕ) → calls' ≡ calls ++ OnFiles ∷ [] → list_all (settled_by (length (deeds pieces calls) + 1)) files' ≡ true → list_all has_short_bytes files' ≡ true → sc' ≤ rc' → sc' ≤ rf'
       → IsKept start areas calls' pieces files' rc' rf' rp sc' sb
-  keep_files files' calls' rc' rf' sc' is settled for_calls for_files =
+  keep_files files' calls' rc' rf' sc' is settled short_files for_calls for_files =
       let deeds_is : deeds pieces calls' ≡ deeds pieces calls ++ ChangedFiles ∷ [] = ap (deeds pieces) is ∙ deeds-files calls pieces in
       let longer : length (deeds pieces calls) + 1 ≡ length (deeds pieces calls') = omega (arith, ap length deeds_is, length-append (deeds pieces calls) (ChangedFiles ∷ [])) in
       record {
-        valid = record { three = kept.valid.three; settled = subst (λ (n : ℕ). list_all (settled_by n) files' ≡ true) longer settled };
-        short = kept.short;
+        valid = record { three = kept.valid.three; short = kept.valid.short; short_files = short_files; settled = subst (λ (n : ℕ). list_all (settled_by n) files' ≡ true) longer settled };
         reads = reads_after ChangedFiles areas calls' pieces files' deeds_is kept.reads;
         fits = omega (arith, kept.fits, ap written is, written-append calls (OnFiles ∷ []));
         rooms = kept.rooms;
@@ -113,7 +113,7 @@ module _ (start : List (List ℕ)) (areas : List AreaView) (calls : List Call) (
       (fits_write a at size piece false calls' pieces' is more counts) (rooms-less sb sb' areas less kept.rooms) for_calls for_files for_pieces
 
   pub keep_write : (a at size : ℕ) (piece : List ℕ) (v : AreaView) (calls' : List Call) (pieces' : List ℕ) (rc' rf' rp' sc' sb' : ℕ) → calls' ≡ calls ++ Write a at size true ∷ [] → pieces' ≡ pieces ++ piece → size ≡ length piece
-      → 1 ≤ length (area_of (read_of (disk_now (held start pieces calls files))) a) → at ≤ length (area_of (read_of (disk_now (held start pieces calls files))) a) → at + length piece ≤ most
+      → 1 ≤ length (area_of (read_of (disk_now (held start pieces calls files))) a) → at ≤ length (area_of (read_of (disk_now (held start pieces calls files))) a) → at + length piece ≤ longest
       → v.bytes ≡ overwritten (area_of (read_of (disk_now (held start pieces calls files))) a) at piece → sb' ≤ v.room
       → sb' ≤ sb → sc' ≤ rc' → sc' ≤ rf' → sb' ≤ rp' → IsKept start (set areas a v) calls' pieces' files rc' rf' rp' sc' sb'
   keep_write a at size piece v calls' pieces' rc' rf' rp' sc' sb' is more counts some inside short bytes room less for_calls for_files for_pieces =

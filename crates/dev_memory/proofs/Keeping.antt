@@ -4,9 +4,9 @@ use Rattle.std.specs.List.{list_all}
 use Rattle.std.proofs.lemmas.List.{map-set, get_or_default, length-map, set-get_or}
 use Rattle.std.proofs.Math.ListN.{get_or-map}
 use Rattle.std.proofs.lemmas.Bool.{and_from, and_parts, le-leb, leb-true}
-use Rattle.dev_traits.specs.Image.{overwritten}
+use Rattle.dev_traits.specs.Image.{longest, overwritten}
 use Rattle.dev_memory.specs.Areas.{AreaView, bytes_in, has_room}
-use Rattle.dev_memory.specs.Disk.{Deed, AreaDisk, at_rest, area_in, most, can_write, wrote, bytes_of, after, replay}
+use Rattle.dev_memory.specs.Disk.{Deed, AreaDisk, at_rest, area_in, can_write, wrote, bytes_of, after, replay}
 
 -- an area and its disk with other bytes, the same in both
 pub reads-set : (views : List AreaView) (disks : List AreaDisk) (a : ℕ) (v : AreaView) (d : AreaDisk) → map bytes_in views ≡ map bytes_of disks → v.bytes ≡ d.bytes → map bytes_in (set views a v) ≡ map bytes_of (set disks a d)
@@ -26,7 +26,7 @@ pub length-views : (views : List AreaView) (disks : List AreaDisk) → map bytes
 length-views views disks reads = sym (length-map views bytes_in) ∙ ap length reads ∙ length-map disks bytes_of
 
 -- the bytes that a write that may be asked for leaves
-pub wrote-bytes : (at : ℕ) (piece : List ℕ) (ok : Bool) (d : AreaDisk) → 1 ≤ length d.bytes → at ≤ length d.bytes → at + length piece ≤ most → (wrote at piece ok d).bytes ≡ (if ok then overwritten d.bytes at piece else d.bytes)
+pub wrote-bytes : (at : ℕ) (piece : List ℕ) (ok : Bool) (d : AreaDisk) → 1 ≤ length d.bytes → at ≤ length d.bytes → at + length piece ≤ longest → (wrote at piece ok d).bytes ≡ (if ok then overwritten d.bytes at piece else d.bytes)
 wrote-bytes at piece ok d long le short =
     ap (λ (b : Bool). (if b then record { bytes = if ok then overwritten d.bytes at piece else d.bytes; base = d.base; steps = Some (at, length piece) ∷ d.steps } else d).bytes)
     (and_from _ _ (and_from _ _ (le-leb 1 _ long) (le-leb at _ le)) (le-leb _ _ short))

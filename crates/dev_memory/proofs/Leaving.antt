@@ -3,12 +3,14 @@ use Rattle.std.proofs.Common.{◌≡◌, ℕ, zero, suc, ◌≤◌, Bool, true, 
 use Rattle.std.proofs.lemmas.List.{get_or_past}
 use Rattle.std.proofs.lemmas.Cmp.{nat_cmp_total}
 use Rattle.std.specs.Ordering.{nat_cmp, eq_by_cmp}
+use Rattle.std.specs.List.{list_all}
 use Rattle.std.specs.FinMap.{from_entries, get-from_entries}
 use Rattle.std.specs.FinMap.Entries.{find}
 use Rattle.dev_traits.specs.Image.{area_of}
 use Rattle.dev_memory.specs.Disk.{AreaDisk, at_rest, area_in, area_disk, Reaches, IsImage, Held, entries_at, disk_now, bytes_of, read_of}
 use Rattle.dev_memory.specs.Crash.{Left, AreSynced}
-use Rattle.dev_memory.specs.Laws.{sound, area_read, three}
+use Rattle.dev_memory.specs.Images.{is_short_file}
+use Rattle.dev_memory.specs.Laws.{sound, area_read, get-short, three}
 
 -- an area as it reads
 pub left_read : (held : Held) (pick a : ℕ) (left : List ℕ) → pick ≡ 0 → left ≡ area_of (read_of (disk_now held)) a → Left pick (area_disk (disk_now held) a) left
@@ -61,13 +63,14 @@ module _ (held : Held) (are_three : length held.start ≡ 3) (pick : ℕ) (areas
   area_synced one (suc (suc zero)) = at_area 2 ∙ third.synced one
   area_synced one (suc (suc (suc a))) = past_left (suc (suc (suc a))) (omega arith) ∙ sym (ap (λ (d : AreaDisk). d.base) (past (suc (suc (suc a))) (omega arith)))
 
-  pub image_left : entries ≡ entries_at (length held.deeds) held.files ++ others → IsImage (disk_now held) (record { areas = areas; files = from_entries entries })
-  image_left more = record {
+  pub image_left : list_all is_short_file entries ≡ true → entries ≡ entries_at (length held.deeds) held.files ++ others → IsImage (disk_now held) (record { areas = areas; files = from_entries entries })
+  image_left all more = record {
     three = ap length areas_are;
     areas = area_left;
     files = λ number bytes there.
         get-from_entries nat_cmp_total entries number ∙ ap (find nat_cmp number) more
         ∙ find_front number bytes (entries_at (length held.deeds) held.files) others (sym (get-from_entries nat_cmp_total (entries_at (length held.deeds) held.files) number) ∙ there);
+    short = get-short entries all;
   }
 
   pub image_read : pick ≡ 0 → entries ≡ entries_at (length held.deeds) held.files → record { areas = areas; files = from_entries entries } ≡ read_of (disk_now held)

@@ -1,5 +1,5 @@
 -- A file whose bytes are changed.
-use Rattle.std.proofs.Common.{◌≡◌, ℕ, zero, suc, ◌+◌, ◌<◌, ◌≤◌, nat_eq, Bool, true, false, cond, ◌&&◌, if◌then◌else◌, IsFalse, MatchBool, Result, Ok, Err, IfOk, OnErr, List, [], ◌∷◌, ◌++◌, length, get_or, set, take, drop, map, Option, Some, None, refl, sym, ◌∙◌, ap, arith}
+use Rattle.std.proofs.Common.{◌≡◌, ℕ, zero, suc, ◌+◌, ◌<◌, ◌≤◌, nat_eq, nat_le, Bool, true, false, cond, ◌&&◌, if◌then◌else◌, IsFalse, MatchBool, Result, Ok, Err, IfOk, OnErr, List, [], ◌∷◌, ◌++◌, length, get_or, set, take, drop, map, Option, Some, None, refl, sym, ◌∙◌, ap, arith}
 use Rattle.std.proofs.lemmas.List.{take_more, take-append-drop, set_split, length-set, take_all, drop_all, append-nil}
 use Rattle.std.proofs.Math.Seq.{drop-cons}
 use Rattle.std.proofs.lemmas.Bool.{and_parts, and_from, eqb-true}
@@ -10,6 +10,8 @@ use Rattle.std.specs.declared.alloc.AllocError.{AllocError}
 use Rattle.std.specs.FinMap.{FinMap, get, insert, from_entries, get-insert, get-from_entries, same_map, nat_cmp-IsAntisymmetric}
 use Rattle.std.specs.FinMap.Entries.{find}
 use Rattle.dev_memory.specs.Disk.{Held, disk_now, at_rest, replay, entries_at, stands_at, settled_by}
+use Rattle.dev_traits.specs.Image.{longest}
+use Rattle.dev_memory.specs.Kept.{has_short_bytes}
 use Rattle.dev_memory.specs.Spoils.{Spoils, ChangesOne, HasNoByte}
 use Rattle.dev_memory.specs.declared.call.File.{File}
 use Rattle.dev_memory.proofs.Files.{tied, ties, find_skip, entries-push, find-here}
@@ -114,6 +116,13 @@ settled_changed n number k at byte old new one all =
     ∙ all_set (settled_by n) old one.place one.changed all
     (settled_same number k at byte old new one n ∙ ap (settled_by n) one.file_is ∙ all_at (settled_by n) old one.place one.file one.there all)
 
+short_changed : (number k at byte : ℕ) (old new : List File) → ChangesOne number k at byte old new → list_all has_short_bytes old ≡ true → list_all has_short_bytes new ≡ true
+short_changed number k at byte old new one all =
+    let size : length one.changed.bytes ≡ length one.file.bytes = ap (λ (f : File). length f.bytes) one.changes.changed ∙ length-set one.file.bytes at byte in
+    ap (list_all has_short_bytes) one.new_is
+    ∙ all_set has_short_bytes old one.place one.changed all
+    (ap (λ (k : ℕ). nat_le k longest) size ∙ ap has_short_bytes one.file_is ∙ all_at has_short_bytes old one.place one.file one.there all)
+
 -- the disk of what is kept
 pub spoils : (number at byte k : ℕ) (old new : Held) → new.start ≡ old.start → new.deeds ≡ old.deeds → k ≡ length old.deeds → ChangesOne number k at byte old.files new.files → Spoils number at byte (disk_now old) (disk_now new)
 spoils number at byte k old new start deeds count one =
@@ -140,14 +149,15 @@ whole_changed n items new counts size =
 pub record Changed (n : ℕ) (old new : List File) : Type 0 where
   pub size : length new ≡ length old
   pub settled : list_all (settled_by n) old ≡ true → list_all (settled_by n) new ≡ true
+  pub short : list_all has_short_bytes old ≡ true → list_all has_short_bytes new ≡ true
 
 unchanged : (n : ℕ) (old new : List File) → new ≡ old → Changed n old new
-unchanged n old new same = record { size = ap length same; settled = λ all. ap (list_all (settled_by n)) same ∙ all }
+unchanged n old new same = record { size = ap length same; settled = λ all. ap (list_all (settled_by n)) same ∙ all; short = λ all. ap (list_all has_short_bytes) same ∙ all }
 
 pub changed_or_same : (n number k at byte : ℕ) (old new : List File) (Else : Type 0) (result : Result Bool AllocError)
     → IfOk result (λ done. MatchBool done (ChangesOne number k at byte old new) Else) → IfOk result (λ done. IsFalse done → new ≡ old) → OnErr result (new ≡ old) → Changed n old new
 changed_or_same n number k at byte old new Else (Ok true) one same memory =
-    record { size = ap length one.new_is ∙ length-set old one.place one.changed; settled = settled_changed n number k at byte old new one }
+    record { size = ap length one.new_is ∙ length-set old one.place one.changed; settled = settled_changed n number k at byte old new one; short = short_changed number k at byte old new one }
 changed_or_same n number k at byte old new Else (Ok false) other same memory = unchanged n old new (same refl)
 changed_or_same n number k at byte old new Else (Err e) ok same memory = unchanged n old new memory
 

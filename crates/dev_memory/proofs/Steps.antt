@@ -1,18 +1,19 @@
 -- What each call adds to what a crash may leave.
-use Rattle.std.proofs.Common.{◌≡◌, ◌≢◌, inl, inr, ⊎_elim, ℕ, ◌+◌, ◌≤◌, ◌<◌, Bool, true, false, cond, if◌then◌else◌, List, [], ◌∷◌, ◌++◌, length, take, set, map, Some, None, refl, sym, ◌∙◌, ap, subst, arith, length-append}
+use Rattle.std.proofs.Common.{◌≡◌, ◌≢◌, inl, inr, ⊎_elim, ℕ, ◌+◌, ◌≤◌, ◌<◌, Bool, true, false, cond, if◌then◌else◌, List, [], ◌∷◌, ◌++◌, length, take, set, map, Option, Some, None, refl, sym, ◌∙◌, ap, subst, arith, length-append}
 use Rattle.std.proofs.lemmas.List.{take-append-le, get_or-set_same, get_or-set_other, length-set}
 use Rattle.std.proofs.lemmas.Bool.{cases_eq}
 use Rattle.std.proofs.lemmas.Map.Views.{list_any-from_Contains}
 use Rattle.std.proofs.lemmas.Cmp.{nat_cmp_total, eq_by_cmp_equiv}
 use Rattle.std.specs.Ordering.{nat_cmp, eq_by_cmp}
+use Rattle.std.specs.FinMap.Entries.{find}
 use Rattle.std.specs.FinMap.{get, insert, retain_keys, from_entries, entries, get-insert, get-entries}
-use Rattle.dev_traits.specs.Image.{Image, area_of, file, overwritten, with_area, Same, Elsewhere, Torn, TornIn, Blanked, Forgets}
+use Rattle.dev_traits.specs.Image.{Image, area_of, file, longest, overwritten, with_area, Same, Elsewhere, Torn, TornIn, Blanked, Forgets}
 use Rattle.dev_traits.specs.View.{Leaves}
 use Rattle.dev_memory.specs.Disk.{Deed, AreaDisk, Disk, at_rest, area_disk, Reaches, IsImage, can_write, wrote, blanked, after, replay, entries_at, Held, disk_now, disk_at, mem_view, is_in}
 use Rattle.dev_memory.specs.Kept.{grown, IsValid}
 use Rattle.dev_memory.specs.Laws.{AreSound, disk_whole}
 use Rattle.dev_memory.proofs.Keeping.{replay-push}
-use Rattle.dev_memory.proofs.Files.{tied, ties, get-kept, entries-later, revive, get-revive, get-revived}
+use Rattle.dev_memory.proofs.Files.{tied, ties, get-kept, entries-later, revive, get-revive, get-revived, get-unrevived}
 
 abbrev pub Step : Type 1
 Step = Image → Image → Type 0
@@ -104,6 +105,7 @@ module _ (disk : Disk) (are_three : length disk.areas ≡ 3) (a : ℕ) (in_range
           (subst (λ (d : AreaDisk). Reaches d.base d.steps (area_of i b)) (area_not_at f b other) (is.areas b))
     ];
     files = is.files;
+    short = is.short;
   }
 
   wrote_is : (at : ℕ) (piece : List ℕ) (ok : Bool) (d : AreaDisk) → can_write at (length piece) d.bytes ≡ true → wrote at piece ok d ≡ record { bytes = if ok then overwritten d.bytes at piece else d.bytes; base = d.base; steps = Some (at, length piece) ∷ d.steps }
@@ -143,6 +145,7 @@ module _ (disk : Disk) (are_three : length disk.areas ≡ 3) (a : ℕ) (in_range
       | inr other ↦ subst (λ (d : AreaDisk). Reaches d.base d.steps (area_of i b)) (area_not_at (λ d. at_rest d.bytes) b other) (is.areas b)
     ];
     files = is.files;
+    short = is.short;
   }
 
 -- A file is adopted.
@@ -152,6 +155,7 @@ adopt_step disk number bytes new i is = record {
   three = is.three;
   areas = is.areas;
   files = λ n x held. is.files n x (get-insert nat_cmp_total disk.files number bytes n ∙ go n x held (eq_by_cmp nat_cmp n number) refl);
+  short = is.short;
 }
   where
     go : (n : ℕ) (x : List ℕ) → get disk.files n ≡ Some x → (b : Bool) → eq_by_cmp nat_cmp n number ≡ b → cond b (Some bytes) (get disk.files n) ≡ Some x
@@ -163,13 +167,21 @@ adopted disk number bytes i is = is.files number bytes (get-insert nat_cmp_total
 
 -- Files are forgotten.
 
-pub forget_step : (disk : Disk) (keep : List ℕ) (i : Image) → IsImage (record disk { files = retain_keys disk.files (is_in keep) }) i → From (Forgets keep) disk i
-forget_step disk keep i is = (
+pub forget_step : (disk : Disk) (keep : List ℕ) → ((number : ℕ) (bytes : List ℕ) → get disk.files number ≡ Some bytes → length bytes ≤ longest) → (i : Image) → IsImage (record disk { files = retain_keys disk.files (is_in keep) }) i → From (Forgets keep) disk i
+forget_step disk keep short i is = (
   record i { files = revive keep (entries disk.files) i.files },
-  record { three = is.three; areas = is.areas; files = λ n x held. go n x held (is_in keep n) refl },
+  record { three = is.three; areas = is.areas; files = λ n x held. go n x held (is_in keep n) refl; short = λ n x there. still n x there (is_in keep n) refl (find nat_cmp n (entries disk.files)) refl },
   record { areas = λ b. refl; kept = λ n contains. sym (get-revive keep (entries disk.files) i.files n (list_any-from_Contains (eq_by_cmp_equiv nat_cmp_total) n keep contains)) },
 )
   where
     go : (n : ℕ) (x : List ℕ) → get disk.files n ≡ Some x → (b : Bool) → is_in keep n ≡ b → get (revive keep (entries disk.files) i.files) n ≡ Some x
     go n x held true kept = get-revive keep (entries disk.files) i.files n kept ∙ is.files n x (get-kept disk.files keep n kept ∙ held)
     go n x held false out = get-revived keep (entries disk.files) i.files n x out (sym (get-entries disk.files n) ∙ held)
+
+    still : (n : ℕ) (x : List ℕ) → get (revive keep (entries disk.files) i.files) n ≡ Some x → (b : Bool) → is_in keep n ≡ b → (found : Option (List ℕ)) → find nat_cmp n (entries disk.files) ≡ found → length x ≤ longest
+    still n x there true kept found is_found = is.short n x (sym (get-revive keep (entries disk.files) i.files n kept) ∙ there)
+    still n x there false out (Some y) is_found =
+        let both : Some y ≡ Some x = sym (get-revived keep (entries disk.files) i.files n y out is_found) ∙ there in
+        let same : y ≡ x = cc in
+        omega (arith, ap length same, short n y (get-entries disk.files n ∙ is_found))
+    still n x there false out None is_found = is.short n x (sym (get-unrevived keep (entries disk.files) i.files n is_found) ∙ there)

@@ -7,12 +7,12 @@ use Rattle.std.proofs.lemmas.Bool.{and_from, le-leb}
 use Rattle.std.specs.Ordering.{nat_cmp}
 use Rattle.std.specs.FinMap.{FinMap, get, insert, retain_keys, from_entries, get-from_entries, get-retain_keys, from_entries_push, nat_cmp-IsAntisymmetric}
 use Rattle.std.specs.FinMap.Entries.{find}
-use Rattle.dev_traits.specs.Image.{Image, area_of, file, overwritten, with_area, with_file, with_files_of, Same, Elsewhere, TornIn, Blanked, Forgets, ForgetsSome}
+use Rattle.dev_traits.specs.Image.{longest, Image, area_of, file, overwritten, with_area, with_file, with_files_of, Same, Elsewhere, TornIn, Blanked, Forgets, ForgetsSome}
 use Rattle.dev_traits.specs.View.{Leaves, Calm}
 use Rattle.dev_memory.specs.Disk as disk
-use Rattle.dev_memory.specs.Disk.{Deed, Wrote, Synced, ChangedFiles, AreaDisk, Disk, at_rest, area_in, area_disk, Reaches, IsImage, most, can_write, wrote, blanked, after, entries_at, Held, disk_now, bytes_of, read_of, mem_view, never, is_in, closed}
+use Rattle.dev_memory.specs.Disk.{Deed, Wrote, Synced, ChangedFiles, AreaDisk, Disk, at_rest, area_in, area_disk, Reaches, IsImage, can_write, wrote, blanked, after, entries_at, Held, disk_now, bytes_of, read_of, mem_view, never, is_in, closed}
 use Rattle.dev_memory.specs.Kept.{grown, with_files, IsValid, IsNewFile}
-use Rattle.dev_memory.specs.Laws.{area_read, sound, three}
+use Rattle.dev_memory.specs.Laws.{area_read, files_short, sound, three}
 use Rattle.dev_memory.specs.declared.call.File.{File}
 use Rattle.dev_memory.proofs.Keeping.{wrote-bytes, replay-push}
 use Rattle.dev_memory.proofs.Steps.{Step, From, Grows, no_step, no_call, one_call, grows_grown, disk_grown, write_step, blank_step, sync_area, sync_step, area_at, adopt_step, adopted, forget_step}
@@ -21,7 +21,7 @@ use Rattle.dev_memory.proofs.Files.{entries-later, entries-push, entries-new, en
 -- Nothing is noted.
 
 pub calm : (h : Held) (b : Bool) (f c y f' c' y' : ℕ) → c ≤ c' → y ≤ y' → Calm (mem_view h b f c y) (mem_view h b f' c' y')
-calm h b f c y f' c' y' calls bytes = record { seen = refl; honest = refl; calls = calls; bytes = bytes; crash = no_call h b b f c y f' c' y' }
+calm h b f c y f' c' y' calls bytes = record { seen = refl; honest = refl; calls = calls; bytes = bytes; moment = refl; now = λ i. (λ left. left, λ left. left); since = λ t i. (λ past. past, λ past. past) }
 
 pub calm_as : (h h' : Held) (b : Bool) (f c y f' c' y' : ℕ) → h' ≡ h → c ≤ c' → y ≤ y' → Calm (mem_view h b f c y) (mem_view h' b f' c' y')
 calm_as h h' b f c y f' c' y' is calls bytes = subst (λ (x : Held). Calm (mem_view h b f c y) (mem_view x b f' c' y')) (sym is) (calm h b f c y f' c' y' calls bytes)
@@ -71,14 +71,14 @@ module _ (h h' : Held) (valid : IsValid h) (a : ℕ) (lt : a < 3) where
   area_now : (deed : Deed) → h' ≡ grown h deed → disk_now h' ≡ record { areas = after deed (disk_now h).areas; files = (disk_now h).files }
   area_now deed is = ap disk_now is ∙ disk_grown h deed valid
 
-  can : (at n : ℕ) → 1 ≤ length (area_of Old a) → at ≤ length (area_of Old a) → at + n ≤ most → can_write at n (area_disk (disk_now h) a).bytes ≡ true
+  can : (at n : ℕ) → 1 ≤ length (area_of Old a) → at ≤ length (area_of Old a) → at + n ≤ longest → can_write at n (area_disk (disk_now h) a).bytes ≡ true
   can at n long le short = and_from _ _ (and_from _ _ (le-leb 1 _ (subst (λ (l : List ℕ). 1 ≤ length l) (area_read (disk_now h) a) long)) (le-leb at _ (subst (λ (l : List ℕ). at ≤ length l) (area_read (disk_now h) a) le))) (le-leb _ _ short)
 
-  pub write_crash : (at : ℕ) (piece : List ℕ) (ok : Bool) → h' ≡ grown h (Wrote a at piece ok) → 1 ≤ length (area_of Old a) → at ≤ length (area_of Old a) → at + length piece ≤ most
+  pub write_crash : (at : ℕ) (piece : List ℕ) (ok : Bool) → h' ≡ grown h (Wrote a at piece ok) → 1 ≤ length (area_of Old a) → at ≤ length (area_of Old a) → at + length piece ≤ longest
       → (b : Bool) (f c y f' c' y' : ℕ) → Leaves (TornIn a at (length piece)) (mem_view h b f c y) (mem_view h' b f' c' y')
   write_crash at piece ok is long le short = area_call (TornIn a at (length piece)) (Wrote a at piece ok) is (write_step (disk_now h) (three h valid.three) a lt at piece ok (can at (length piece) long le short))
 
-  pub write_read : (at : ℕ) (piece : List ℕ) (ok : Bool) → h' ≡ grown h (Wrote a at piece ok) → 1 ≤ length (area_of Old a) → at ≤ length (area_of Old a) → at + length piece ≤ most
+  pub write_read : (at : ℕ) (piece : List ℕ) (ok : Bool) → h' ≡ grown h (Wrote a at piece ok) → 1 ≤ length (area_of Old a) → at ≤ length (area_of Old a) → at + length piece ≤ longest
       → read_of (disk_now h') ≡ with_area a (if ok then overwritten (area_of Old a) at piece else area_of Old a) Old
   write_read at piece ok is long le short =
       let read = area_read (disk_now h) a in
@@ -181,7 +181,7 @@ module _ (h h' : Held) (valid : IsValid h) (keep : List ℕ) (short : length h.d
 
   pub forget_crash : (b : Bool) (f c y f' c' y' : ℕ) → Leaves (Forgets keep) (mem_view h b f c y) (mem_view h' b f' c' y')
   forget_crash b f c y f' c' y' = subst (λ (x : Held). Leaves (Forgets keep) (mem_view h b f c y) (mem_view x b f' c' y')) (sym is)
-      (one_call (Forgets keep) h Fewer ChangedFiles grows_fewer b b f c y f' c' y' (λ i left. forget_step (disk_now h) keep i (subst (λ (d : Disk). IsImage d i) disk_fewer left)))
+      (one_call (Forgets keep) h Fewer ChangedFiles grows_fewer b b f c y f' c' y' (λ i left. forget_step (disk_now h) keep (files_short h valid) i (subst (λ (d : Disk). IsImage d i) disk_fewer left)))
 
   others : (files : FinMap nat_cmp (List ℕ)) (number : ℕ) → (get (retain_keys files (is_in keep)) number ≡ get files number) ⊎ (get (retain_keys files (is_in keep)) number ≡ None)
   others files number = go (is_in keep number) (get-retain_keys files (is_in keep) number (λ x same. ap (is_in keep) (sym (nat_cmp-IsAntisymmetric number x same))))

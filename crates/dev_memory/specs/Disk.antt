@@ -3,7 +3,7 @@ use Rattle.std.specs.Prelude.{◌≡◌, ◌⊎◌, ℕ, ◌+◌, ◌-◌, ◌�
 use Rattle.std.specs.Ordering.{nat_cmp, eq_by_cmp}
 use Rattle.std.specs.List.{list_any}
 use Rattle.std.specs.FinMap.{FinMap, get, from_entries}
-use Rattle.dev_traits.specs.Image.{Image, area_of, file, overwritten, Torn}
+use Rattle.dev_traits.specs.Image.{Image, area_of, file, longest, overwritten, Torn}
 use Rattle.dev_traits.specs.View.{View}
 use Rattle.dev_memory.specs.declared.call.Call.{Call}
 use Rattle.dev_memory.specs.declared.call.Call.TheVariants.{Write, Sync, Blank, OnFiles}
@@ -58,22 +58,19 @@ Reaches base [] c = c ≡ base
 Reaches base (Some write ∷ earlier) c = (d : List ℕ) × Reaches base earlier d × Torn write.0 write.1 d c
 Reaches base (None ∷ earlier) c = (c ≡ 0 ∷ []) ⊎ Reaches base earlier c
 
--- a crash may leave this image: an adopted file keeps its bytes, and every other number may hold any
+-- a crash may leave this image: an adopted file keeps its bytes, and every other number may hold any that aren't too many
 pub record IsImage (disk : Disk) (image : Image) : Type 0 where
   pub three : length image.areas ≡ 3
   pub areas : (a : ℕ) → Reaches (area_disk disk a).base (area_disk disk a).steps (area_of image a)
   pub files : (number : ℕ) (bytes : List ℕ) → get disk.files number ≡ Some bytes → file image number ≡ Some bytes
-
--- the most bytes that an area or a file has
-abbrev pub most : ℕ
-most = 2 ^ 44
+  pub short : (number : ℕ) (bytes : List ℕ) → file image number ≡ Some bytes → length bytes ≤ longest
 
 abbrev pub is_short : List ℕ → Bool
-is_short bytes = nat_le (length bytes) most
+is_short bytes = nat_le (length bytes) longest
 
 -- a write of so many bytes outside what is there, or past the most, isn't asked for, and changes nothing
 abbrev pub can_write : ℕ → ℕ → List ℕ → Bool
-can_write at n bytes = (nat_le 1 (length bytes) && nat_le at (length bytes)) && nat_le (at + n) most
+can_write at n bytes = (nat_le 1 (length bytes) && nat_le at (length bytes)) && nat_le (at + n) longest
 
 abbrev pub wrote : ℕ → List ℕ → Bool → AreaDisk → AreaDisk
 wrote at piece ok d =

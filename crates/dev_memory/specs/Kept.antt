@@ -1,5 +1,5 @@
 -- What a store in memory keeps, by its parts.
-use Rattle.std.specs.Prelude.{◌≡◌, ℕ, ◌+◌, ◌≤◌, true, List, [], ◌∷◌, ◌++◌, length, map}
+use Rattle.std.specs.Prelude.{◌≡◌, ℕ, ◌+◌, ◌≤◌, Bool, true, List, [], ◌∷◌, ◌++◌, length, map}
 use Rattle.std.specs.List.{list_all}
 use Rattle.dev_memory.specs.Areas.{AreaView, bytes_in, has_room}
 use Rattle.dev_memory.specs.Disk.{Held, Deed, ChangedFiles, closed, deeds, written, bytes_of, disk_now, settled_by, is_short, never}
@@ -21,15 +21,19 @@ grown h deed = record h { deeds = h.deeds ++ deed ∷ [] }
 abbrev pub with_files : Held → List File → Held
 with_files h files = record h { files = files }
 
--- three areas, and each file was adopted, and forgotten or stands
+abbrev pub has_short_bytes : File → Bool
+has_short_bytes f = is_short f.bytes
+
+-- three areas, each file was adopted, and forgotten or stands, and none has more bytes than an area or a file may
 pub record IsValid (h : Held) : Type 0 where
   pub three : length h.start ≡ 3
+  pub short : list_all is_short h.start ≡ true
+  pub short_files : list_all has_short_bytes h.files ≡ true
   pub settled : list_all (settled_by (length h.deeds)) h.files ≡ true
 
 -- the parts fit each other, and there is room for what is spare
 pub record IsKept (start : List (List ℕ)) (areas : List AreaView) (calls : List Call) (pieces : List ℕ) (files : List File) (calls_room files_room pieces_room spare_calls spare_bytes : ℕ) : Type 0 where
   pub valid : IsValid (held start pieces calls files)
-  pub short : list_all is_short start ≡ true
   pub reads : map bytes_in areas ≡ map bytes_of (disk_now (held start pieces calls files)).areas
   pub fits : written calls ≡ length pieces
   pub rooms : list_all (has_room spare_bytes) areas ≡ true

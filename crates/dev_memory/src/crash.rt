@@ -367,5 +367,5 @@ pub fn area_left(
         area,
         pick,
     )?;
-    Ok(Octets::from_vec(left.into_vec()))
+    Octets::from_vec(alloc, left.into_vec())
 }

@@ -136,7 +136,6 @@ impl Inputs for MemInputs {
         ensures found { Asks (λ src. Some (left_of src)) source_faults (Some (files_of self.old)) name.now result }
         ensures cause { AskCause (faults_of self.old) (faults_of self.new) result }
         ensures exactly { result ≡ Asked.Failed ↔ Contains (fails_of self.old) 0 }
-        ensures memory { result ≡ Asked.Memory → IsSome (get (files_of self.old) name.now) }
         ensures numbered { NumberedOn self.old result }
         ensures takes { takes_of self.new ≡ takes_of self.old }
         ensures fails { fails_of self.new ≡ fails_of self.old }

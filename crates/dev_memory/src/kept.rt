@@ -177,12 +177,13 @@ impl Kept {
     ghost use Rattle.dev_memory.specs.Crash.{Left, AreSynced};
     ghost use Rattle.dev_memory.specs.Disk.{area_disk, IsImage};
     ghost use Rattle.dev_memory.specs.Images.{image_of};
-    ghost use Rattle.dev_memory.specs.Kept.{grown, with_files, at_first, IsValid, IsNewFile};
+    ghost use Rattle.dev_memory.specs.Kept.{grown, with_files, at_first, has_short_bytes, IsValid, IsNewFile};
 
     /// Three areas with these bytes, and these files, before any call.
     pub fn new(alloc: Global, start: Vec<Octets>, files: Vec<File>) -> Result<Kept, Memory>
         requires three { length start.items ≡ 3 }
         requires short { list_all is_short start.items ≡ true }
+        requires short_files { list_all has_short_bytes files.items ≡ true }
         requires settled { list_all (settled_by 0) files.items ≡ true }
         ensures held { IfOk result (λ kept. kept.held ≡ at_first start.items files.items) }
         ensures valid { IfOk result (λ kept. IsValid kept.held) }
@@ -345,7 +346,8 @@ impl Kept {
     }
 
     pub fn adopt(&mut self, number: u64, bytes: SharedBytes)
-        requires { 1 ≤ self.old.spare_calls }
+        requires calls { 1 ≤ self.old.spare_calls }
+        requires short { length bytes ≤ 2 ^ 44 }
         ensures valid { IsValid self.new.held }
         ensures adopted { (f : _) × IsNewFile number bytes (length self.old.held.deeds + 1) f × (self.new.held ≡ with_files (grown self.old.held ChangedFiles) (self.old.held.files ++ f ∷ [])) }
         ensures calls { self.old.spare_calls ≡ self.new.spare_calls + 1 }

@@ -17,6 +17,7 @@ pub struct MemSealed {
     pub(crate) file: SharedBytes,
     pub(crate) reader: MemReader,
     ghost is_new: { IsNewOver file reader },
+    ghost short: { length file ≤ 2 ^ 44 },
 }
 
 /// A maker of files in memory, which fails at the listed calls, counted from 1.

@@ -1,4 +1,4 @@
-ghost use Rattle.std.specs.Prelude.{◌≡◌, ◌+◌, ◌^◌, ◌≤◌, ℕ, List, Some, IfOk, length, refl};
+ghost use Rattle.std.specs.Prelude.{◌≡◌, ◌+◌, ◌-◌, ◌^◌, ◌≤◌, ℕ, List, Some, IfOk, length, refl};
 ghost use Rattle.dev_traits.specs.Reader.{ReaderView};
 ghost use Rattle.dev_memory.specs.Told.{size_told};
 
@@ -16,6 +16,7 @@ pub struct MemReader {
     faults: u64,
     reads: u64,
     ghost short: { length file ≤ 2 ^ 44 },
+    ghost counted: { reads ≤ 2 ^ 64 - 1 },
 }
 
 impl MemReader {
@@ -58,6 +59,8 @@ impl SealedReader for MemReader {
     ghost size_is_told = { λ r bytes is. size_told r.file bytes is };
 
     ghost size_is_bounded = { λ r. r.short };
+
+    ghost reads_are_bounded = { λ r. r.counted };
 
     fn faults(&self) -> u64 {
         self.faults

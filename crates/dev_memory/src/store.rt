@@ -3,7 +3,7 @@ ghost use Rattle.std.specs.Ordering.{nat_cmp};
 ghost use Rattle.std.specs.FinMap.Entries.{find};
 ghost use Rattle.std.specs.List.{list_all};
 ghost use Rattle.dev_traits.specs.Causes.{Counts};
-ghost use Rattle.dev_memory.specs.Laws.{counts, only, read_is_image, files_kept, empty_kept, three_read};
+ghost use Rattle.dev_memory.specs.Laws.{counts, only, read_is_image, files_kept, empty_kept, three_read, short_now, short_since, short_read};
 ghost use Rattle.dev_memory.specs.Disk.{disk_now, read_of, entries_at};
 ghost use Rattle.dev_memory.specs.Images.{is_short_file};
 ghost use Rattle.dev_memory.specs.Kept.{IsValid, first_file};
@@ -97,7 +97,13 @@ impl Store for MemStore {
 
     ghost three_areas = { λ s image is. three_read s.kept.held s.valid.three image is };
 
-    ghost honest_reads = { λ s honest. (read_of (disk_now s.kept.held), refl, read_is_image s.kept.held s.valid.three) };
+    ghost short_now = { λ s image may. short_now s.kept.held image s.valid may };
+
+    ghost short_since = { λ s t image might. short_since s.kept.held t image s.valid might };
+
+    ghost short_read = { λ s image is. short_read s.kept.held s.valid image is };
+
+    ghost honest_reads = { λ s honest. (read_of (disk_now s.kept.held), refl, read_is_image s.kept.held s.valid) };
 
     ghost honest_files = { λ s honest image is. files_kept s.kept.held image is };
 
@@ -326,7 +332,7 @@ fn files_of(alloc: Global, entries: Vec<(u64, Octets)>) -> Result<Vec<File>, Mem
 {
     let mut files = Vec::new(alloc);
     for (number, text) in entries {
-        let bytes = SharedBytes::new(alloc, text.into_vec())?;
+        let bytes = SharedBytes::new(alloc, text.into_vec(alloc)?)?;
         files.push(File {
             number,
             bytes,
@@ -354,9 +360,9 @@ impl MemStore {
         ensures listed { IfOk result (λ store. Lists faults store) }
     {
         let mut areas = Vec::new(alloc);
-        areas.push(Octets::from_vec(Vec::new(alloc)))?;
-        areas.push(Octets::from_vec(Vec::new(alloc)))?;
-        areas.push(Octets::from_vec(Vec::new(alloc)))?;
+        areas.push(Octets::from_slice(alloc, b"")?)?;
+        areas.push(Octets::from_slice(alloc, b"")?)?;
+        areas.push(Octets::from_slice(alloc, b"")?)?;
         let files = Vec::new(alloc);
         MemStore::of_image(alloc, Image { areas, files }, faults)
     }

@@ -1,5 +1,5 @@
 -- What a read, a write and an ask for an input do to the bytes that are told, and when they may fail.
-use Rattle.std.specs.Prelude.{◌≡◌, ℕ, ◌<◌, ◌≤◌, List, [], ◌++◌, take, drop, length, Option, Some, None, ⊤}
+use Rattle.std.specs.Prelude.{◌≡◌, ℕ, ◌<◌, ◌≤◌, List, [], ◌++◌, take, drop, length, Option, Some, None, IsSome, ⊤}
 use Rattle.std.specs.Ordering.{nat_cmp}
 use Rattle.std.specs.Cmp.Lexicographic.{slice_cmp}
 use Rattle.std.specs.FinMap.{FinMap, get}
@@ -48,14 +48,16 @@ abbrev pub PutCause : ℕ → ℕ → Put → Type 0
 PutCause before now put_.Failed = Counts 1 before now
 PutCause before now (put_.Took n) = now ≡ before
 
--- inputs that tell give a source of the bytes under the name, and answer that it is absent exactly where they have none; a new source has no fault
+-- Inputs that tell give a source of the bytes under the name, and answer that it is absent exactly where they have none, so that they want
+-- memory only for an input that is there. A new source has no fault.
 abbrev pub Asks : {S : Type 0} → (S → Option (List ℕ)) → (S → ℕ) → Option Files → List ℕ → Asked S → Type 0
 Asks left faults None name (asked.Got src) = (left src ≡ None) × (faults src ≡ 0)
 Asks left faults (Some files) name (asked.Got src) = (bytes : List ℕ) × (get files name ≡ Some bytes) × (left src ≡ Some bytes) × (faults src ≡ 0)
 Asks left faults None name asked.Absent = ⊤
 Asks left faults (Some files) name asked.Absent = get files name ≡ None
 Asks left faults files name asked.Failed = ⊤
-Asks left faults files name asked.Memory = ⊤
+Asks left faults None name asked.Memory = ⊤
+Asks left faults (Some files) name asked.Memory = IsSome (get files name)
 
 -- an ask that fails counts one fault, and another none
 abbrev pub AskCause : {S : Type 0} → ℕ → ℕ → Asked S → Type 0

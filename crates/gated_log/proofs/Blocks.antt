@@ -86,7 +86,7 @@ scans_none bytes some = record { bodies = []; split = refl; size = refl; sizes =
 pub scans_start : (bytes : List ℕ) → 1 ≤ length bytes → (so_far : IsScanned 0 bytes) × (so_far.bodies ≡ [])
 scans_start bytes some = (record { bodies = []; split = refl; size = refl; sizes = tt; inside = some; onward = λ all log. (all, refl, log) }, refl)
 
-same_block : (b body rest' rest : List ℕ) → (165 ∷ frame b) ++ rest' ≡ (165 ∷ frame body) ++ rest → IsBody b → IsBody body → (b ≡ body) × (rest' ≡ rest)
+pub same_block : (b body rest' rest : List ℕ) → (165 ∷ frame b) ++ rest' ≡ (165 ∷ frame body) ++ rest → IsBody b → IsBody body → (b ≡ body) × (rest' ≡ rest)
 same_block b body rest' rest is is_b is_body =
     let tails : frame b ++ rest' ≡ frame body ++ rest = ap (λ (l : List ℕ). drop 1 l) is in
     let heads : to_be_bytes w64 (length b) ≡ to_be_bytes w64 (length body) =

@@ -61,6 +61,13 @@ pub record Appends (a : ℕ) (bodies : List (List ℕ)) (body : List ℕ) (old n
   pub elsewhere : Elsewhere a old new
   pub log : IsLog bodies (area_of new a) ⊎ IsLog (bodies ++ body ∷ []) (area_of new a)
 
+-- an open gate and this body, with a gate behind it
+pub record BeginsWith (body bytes : List ℕ) : Type 0 where
+  pub rest : List ℕ
+  pub split : bytes ≡ (165 ∷ frame body) ++ rest
+  pub is_body : IsBody body
+  pub more : rest ≢ []
+
 -- an open gate at one place, and behind its body a gate at another
 pub record IsBlock (at gate : ℕ) (bytes : List ℕ) : Type 0 where
   pub body : List ℕ
@@ -77,3 +84,9 @@ pub record IsScanned (at : ℕ) (bytes : List ℕ) : Type 0 where
   pub sizes : AreBodies bodies
   pub inside : at < length bytes
   pub onward : (all : List (List ℕ)) → IsLog all bytes → (rest : List (List ℕ)) × (all ≡ bodies ++ rest) × IsLog rest (drop at bytes)
+
+-- the bytes are a log of just these bodies, with its closed gate at this place
+pub record HasScanned (bodies : List (List ℕ)) (end : ℕ) (bytes : List ℕ) : Type 0 where
+  pub scanned : IsScanned end bytes
+  pub bodies_are : scanned.bodies ≡ bodies
+  pub closed : HasNone (drop end bytes)

@@ -7,8 +7,8 @@ mod framed;
 mod log;
 mod reading;
 
-pub use contents::bodies;
+pub use contents::{Contents, bodies, first_body, read_log};
 pub use fault::LogFault;
 pub use framed::{Framed, frame};
-pub use log::{Log, append};
-pub use reading::{find, reset};
+pub use log::{Log, append, reset};
+pub use reading::find;

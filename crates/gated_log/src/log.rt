@@ -1,6 +1,6 @@
-ghost use Rattle.std.specs.Prelude.{◌≡◌, ◌+◌, ◌^◌, ◌<◌, ◌≤◌, ◌∷◌, [], ◌++◌, ℕ, List, length, OnOk, IfErr, OnErr};
+ghost use Rattle.std.specs.Prelude.{◌≡◌, ◌+◌, ◌^◌, ◌<◌, ◌≤◌, ◌∷◌, [], ◌++◌, ℕ, List, length, OnOk, IfOk, IfErr, OnErr};
 ghost use Rattle.dev_traits.specs.Causes.{HasCause};
-ghost use Rattle.dev_traits.specs.Image.{area_of, overwritten};
+ghost use Rattle.dev_traits.specs.Image.{area_of, overwritten, Blanked};
 ghost use Rattle.dev_traits.specs.View.{Told, EachImage, Leaves, Spends, ReadsElsewhere};
 ghost use Rattle.gated_log.specs.Log.{frame, EndsAt, IsSettled, IsReady, Appends};
 
@@ -69,4 +69,24 @@ pub fn append<S: Store>(store: &mut S, log: &mut Log, piece: &Framed) -> Result<
     store.sync(area)?;
     log.end = gate + bytes.len() as u64;
     Ok(())
+}
+
+/// Empties the log of an area, by one device call, `blank`, for which the store has room.
+///
+/// # Errors
+/// `StoreFault`. A crash then leaves what it might have left before, or the empty log.
+pub fn reset<S: Store>(store: &mut S, area: u32) -> Result<Log, LogFault>
+    requires there { area < 3 }
+    requires calls { 1 ≤ (S.view store.old).spare_calls }
+    ensures log { IfOk result (λ log. (log.area ≡ area) × (log.end ≡ 0)) }
+    ensures none { OnOk result (Told (S.view store.new) (λ image. EndsAt [] 0 (area_of image area))) }
+    ensures durable { OnOk result (EachImage (S.view store.new) (λ left. EndsAt [] 0 (area_of left area))) }
+    ensures elsewhere { ReadsElsewhere area (S.view store.old) (S.view store.new) }
+    ensures spends { Spends 1 0 (S.view store.old) (S.view store.new) }
+    ensures any_moment { Leaves (Blanked area) (S.view store.old) (S.view store.new) }
+    ensures only { IfErr result (λ e. e ≡ LogFault.StoreFault) }
+    ensures cause { HasCause (S.view store.old).faults (S.view store.new).faults result }
+{
+    store.blank(area)?;
+    Ok(Log { area, end: 0 })
 }

@@ -7,29 +7,9 @@ ghost use Rattle.gated_log.specs.Faults.{HasLogCause};
 ghost use Rattle.gated_log.specs.Log.{IsLog, IsNoLog, EndsAt, HasNone, IsBlock, IsScanned, IsSettled, IsReady, IsSynced};
 ghost use Rattle.gated_log.specs.declared.fault.LogFault.TheVariants.{StoreFault, NotALog};
 
-use crate::log::OPEN;
+use crate::log::{OPEN, reset};
 use crate::{Log, LogFault};
 use dev_traits::Store;
-
-/// Empties the log of an area, by one device call, `blank`, for which the store has room.
-///
-/// # Errors
-/// `StoreFault`. A crash then leaves what it might have left before, or the empty log.
-pub fn reset<S: Store>(store: &mut S, area: u32) -> Result<Log, LogFault>
-    requires there { area < 3 }
-    requires calls { 1 ≤ (S.view store.old).spare_calls }
-    ensures log { IfOk result (λ log. (log.area ≡ area) × (log.end ≡ 0)) }
-    ensures none { OnOk result (Told (S.view store.new) (λ image. EndsAt [] 0 (area_of image area))) }
-    ensures durable { OnOk result (EachImage (S.view store.new) (λ left. EndsAt [] 0 (area_of left area))) }
-    ensures elsewhere { ReadsElsewhere area (S.view store.old) (S.view store.new) }
-    ensures spends { Spends 1 0 (S.view store.old) (S.view store.new) }
-    ensures any_moment { Leaves (Blanked area) (S.view store.old) (S.view store.new) }
-    ensures only { IfErr result (λ e. e ≡ StoreFault) }
-    ensures cause { HasCause (S.view store.old).faults (S.view store.new).faults result }
-{
-    store.blank(area)?;
-    Ok(Log { area, end: 0 })
-}
 
 // The length that a header tells.
 fn size_in(header: &[u8; 8]) -> u64

@@ -2,3 +2,4 @@ pub mod Parts
 pub mod KeyOrder
 pub mod KeyLemmas
 pub mod DecodeLemmas
+pub mod PrefixOrder

@@ -4,3 +4,4 @@ pub mod KeyCode
 pub mod Keys
 pub mod Reads
 pub mod Shapes
+pub mod Prefixes

@@ -64,7 +64,10 @@ fn read_text(alloc: Global, bytes: &[u8], last: bool) -> Result<Front, AllocErro
         return Ok(Some((Value::Text(text), bytes.len())));
     }
     match read_escaped(alloc, bytes)? {
-        Some((text, taken)) => Ok(Some((Value::Text(Octets::from_vec(text)), taken))),
+        Some((piece, taken)) => {
+            let text = Octets::from_vec(alloc, piece)?;
+            Ok(Some((Value::Text(text), taken)))
+        }
         None => Ok(None),
     }
 }

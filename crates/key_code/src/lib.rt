@@ -5,7 +5,9 @@ mod decoding;
 mod encoding;
 mod escape;
 mod faults;
+mod prefixes;
 
 pub use decoding::decode;
 pub use encoding::encode;
 pub use faults::{DecodeFault, KeyFault};
+pub use prefixes::{prefix, prefix_order};

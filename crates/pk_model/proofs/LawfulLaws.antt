@@ -52,7 +52,7 @@ fits-key : (s : Layout) (given : List ℕ) (op : Op) → fits_line s given op �
 fits-key s given (Delete key) h = h
 fits-key s given (Upsert key cells) h = first_true (fits_key s key) (fits_given s given cells) h
 
-row-key : (s : Layout) (given : List ℕ) (b : ℕ) (op : Op) (old : Option (List Value)) (row : List Value)
+pub row-key : (s : Layout) (given : List ℕ) (b : ℕ) (op : Op) (old : Option (List Value)) (row : List Value)
     → rise_within s.keys b given ≡ true → fits_line s given op ≡ true
     → ((r : List Value) → old ≡ Some r → key_of s r ≡ key_named op)
     → row_after s given op old ≡ Some row → key_of s row ≡ key_named op

@@ -1,11 +1,13 @@
 -- A merge: what one line does at the place that the merge has come to, and what a sort of the lines keeps.
-use Rattle.std.proofs.Common.{◌≡◌, refl, ap, sym, subst, ◌∙◌, ℕ, ◌+◌, ◌≤◌, ◌<◌, suc, arith, List, [], ◌∷◌, ◌++◌, length, append_assoc, Option, Some, None, IfSome, IfNone, cond, not, unwrap_or, Bool as Truth, true, false, ◌&&◌, T, get_or, add-one}
+use Rattle.std.proofs.Common.{◌≡◌, refl, ap, sym, subst, ◌∙◌, ℕ, ◌+◌, ◌≤◌, ◌<◌, suc, arith, List, [], ◌∷◌, ◌++◌, length, append_assoc, Option, Some, None, IfSome, IfNone, Result, Ok, Err, OnOk, cond, not, unwrap_or, Bool as Truth, true, false, ◌&&◌, T, get_or, add-one}
 use Rattle.std.specs.List.{filter}
 use Rattle.std.specs.List.Sorted.{IsStableBy, ties}
-use Rattle.std.specs.Ordering.{eq_by_cmp, is_lt, is_le, is_eq, ordering_reverse}
+use Rattle.std.specs.Ordering.{eq_by_cmp, is_lt, is_le, is_eq, nat_cmp, ordering_reverse}
+use Rattle.std.proofs.lemmas.Map.Views.{tells_apart}
 use Rattle.std.specs.declared.cmp.Ordering.{Ordering}
 use Rattle.std.specs.declared.cmp.Ordering.TheVariants.{Less, Equal, Greater}
 use Rattle.std.specs.Cmp.{tied_itself}
+use Rattle.std.proofs.lemmas.Cmp.{nat_cmp_total}
 use Rattle.std.specs.FinMap.{entries, entries_sorted, entries-from_sorted, get, insert, remove, same_map, same_entries_map, from_sorted}
 use Rattle.std.specs.FinMap.Entries.{below_all, is_sorted}
 use Rattle.pk_values.specs.Order.{key_cmp}
@@ -14,21 +16,13 @@ use Rattle.pk_values.specs.Schemas.{Layout}
 use Rattle.pk_values.specs.declared.cells.Value.{Value}
 use Rattle.pk_model.specs.declared.calls.Op.{Op}
 use Rattle.pk_model.specs.declared.calls.Op.TheVariants.{Upsert, Delete}
-use Rattle.pk_model.specs.declared.merges.Line.{Line}
-use Rattle.pk_model.specs.declared.runs.Run.{Run}
-use Rattle.pk_model.specs.Tables.{Rows, act, after_lines, key_named, new_row, with_cells}
+use Rattle.pk_model.specs.declared.calls.Load.{Load}
+use Rattle.pk_model.specs.Tables.{Rows, act, after, after_lines, key_named, new_row, with_cells}
 use Rattle.pk_model.specs.Laws.{row_after, result_for}
-use Rattle.pk_model.specs.Runs.{Pair, HasRoom, are_below, are_up_to}
-use Rattle.pk_model.specs.Merges.{ArePrepared, ops_of, rise, await, row_if_new, Settles, KeepsOrder, StaysUpTo}
+use Rattle.pk_model.specs.Runs.{Pair, are_below, are_up_to}
+use Rattle.pk_model.specs.Merges.{rise, await, Settles, KeepsOrder, StaysUpTo}
 use Rattle.pk_model.proofs.RunLaws as run
 use Rattle.pk_model.proofs.LoadLaws.{get-after}
-
--- room for fewer rows
-pub room-less : (r : Run) (a b : ℕ) → a ≤ b → HasRoom r b → HasRoom r a
-room-less r a b p h =
-    let k = h.0 in
-    let v = h.1 in
-    (omega (arith, k), omega (arith, v))
 
 -- the row of a key that was taken off the pairs written, and the place where it stood
 module _ (m : Rows) (key : List Value) (old mid after : List Pair) (r : Option (List Value))
@@ -61,12 +55,9 @@ module _ (given : List ℕ) (key : List Value) (old mid : List Pair) (r : Option
   old_sorted : (after : List Pair) → T (is_sorted key_cmp (old ++ after)) → T (is_sorted key_cmp old)
   old_sorted after h = run.sorted-head old after h
 
-  pub delete-settles : Settles given (Delete key) [] old mid
-  delete-settles s m after p is u a =
+  pub delete-settles : (s : Layout) → Settles s given (Delete key) old mid
+  delete-settles s m after is u a =
       gone m key old mid after r found kept (below (old_sorted after (subst (λ es. T (is_sorted key_cmp es)) is (entries_sorted m))) u) a is
-
-  pub delete-any_row : (row : List Value) → Settles given (Delete key) row old mid
-  delete-any_row row s m after p is u a = delete-settles s m after refl is u a
 
   pub delete-order : KeepsOrder (Delete key) old mid
   delete-order after h u a =
@@ -76,15 +67,15 @@ module _ (given : List ℕ) (key : List Value) (old mid : List Pair) (r : Option
   pub delete-up_to : StaysUpTo (Delete key) old mid
   delete-up_to h u = run.up_to-below key mid (below h u)
 
-  module _ (cells fresh row : List Value) (new : List Pair) (wrote : row ≡ with_cells given cells (unwrap_or r fresh)) (pushed : new ≡ mid ++ (key, row) ∷ []) where
+  module _ (s : Layout) (cells row : List Value) (new : List Pair) (wrote : row ≡ with_cells given cells (unwrap_or r (new_row s key))) (pushed : new ≡ mid ++ (key, row) ∷ []) where
     joined : (after : List Pair) → mid ++ (key, row) ∷ after ≡ new ++ after
     joined after = sym (ap (λ es. es ++ after) pushed ∙ append_assoc mid ((key, row) ∷ []) after)
 
-    pub upsert-settles : Settles given (Upsert key cells) fresh old new
-    upsert-settles s m after p is u a =
+    pub upsert-settles : Settles s given (Upsert key cells) old new
+    upsert-settles m after is u a =
         let b = below (old_sorted after (subst (λ es. T (is_sorted key_cmp es)) is (entries_sorted m))) u in
         let same : with_cells given cells (unwrap_or (get m key) (new_row s key)) ≡ row =
-        (λ i. with_cells given cells (unwrap_or (looked m key old mid after r found kept b a is i) (sym p i))) ∙ sym wrote in
+        ap (λ o. with_cells given cells (unwrap_or o (new_row s key))) (looked m key old mid after r found kept b a is) ∙ sym wrote in
         ap (λ w. entries (insert m key w)) same ∙ laid m key old mid after r found kept b a is row ∙ joined after
 
     pub upsert-order : KeepsOrder (Upsert key cells) old new
@@ -108,33 +99,32 @@ pub rise-next : (a : Op) (ops : List Op) → T (rise (a ∷ ops)) → T (rise op
 rise-next a [] h = tt
 rise-next a (b ∷ ops) h = run.second _ _ h
 
-module _ (given : List ℕ) (line : Line) (lines : List Line) (old_done old_rest moved_done moved_rest new_done : List Pair)
+module _ (s : Layout) (given : List ℕ) (op : Op) (ops : List Op) (old_done old_rest moved_done moved_rest new_done : List Pair)
     (same : moved_done ++ moved_rest ≡ old_done ++ old_rest)
-    (behind : T (are_up_to (key_named line.op) old_done) → T (are_up_to (key_named line.op) moved_done))
-    (above : T (is_sorted key_cmp (moved_done ++ moved_rest)) → T (below_all key_cmp (key_named line.op) moved_rest))
-    (acts : Settles given line.op line.new_row moved_done new_done)
-    (order : KeepsOrder line.op moved_done new_done)
-    (up_to : StaysUpTo line.op moved_done new_done)
+    (behind : T (are_up_to (key_named op) old_done) → T (are_up_to (key_named op) moved_done))
+    (above : T (is_sorted key_cmp (moved_done ++ moved_rest)) → T (below_all key_cmp (key_named op) moved_rest))
+    (acts : Settles s given op moved_done new_done)
+    (order : KeepsOrder op moved_done new_done)
+    (up_to : StaysUpTo op moved_done new_done)
     (in_order : T (is_sorted key_cmp (old_done ++ old_rest)))
-    (awaited : T (await (line.op ∷ ops_of lines) old_done))
-    (rises : T (rise (line.op ∷ ops_of lines))) where
+    (awaited : T (await (op ∷ ops) old_done))
+    (rises : T (rise (op ∷ ops))) where
   order1 : T (is_sorted key_cmp (moved_done ++ moved_rest))
   order1 = subst (λ es. T (is_sorted key_cmp es)) (sym same) in_order
 
   pub turn-order : T (is_sorted key_cmp (new_done ++ moved_rest))
   turn-order = order moved_rest order1 (behind awaited) (above order1)
 
-  pub turn-awaits : T (await (ops_of lines) new_done)
-  turn-awaits = await-next line.op (ops_of lines) new_done rises (up_to (run.sorted-head moved_done moved_rest order1) (behind awaited))
+  pub turn-awaits : T (await ops new_done)
+  turn-awaits = await-next op ops new_done rises (up_to (run.sorted-head moved_done moved_rest order1) (behind awaited))
 
-  pub turn-rises : T (rise (ops_of lines))
-  turn-rises = rise-next line.op (ops_of lines) rises
+  pub turn-acts : (n : Rows) → entries n ≡ old_done ++ old_rest → entries (act s given op n) ≡ new_done ++ moved_rest
+  turn-acts n is = acts n moved_rest (is ∙ sym same) (behind awaited) (above order1)
 
-  pub turn-acts : (s : Layout) (n : Rows) → line.new_row ≡ row_if_new s line.op → entries n ≡ old_done ++ old_rest → entries (act s given line.op n) ≡ new_done ++ moved_rest
-  turn-acts s n p is = acts s n moved_rest p (is ∙ sym same) (behind awaited) (above order1)
-
-  pub turn : T (is_sorted key_cmp (new_done ++ moved_rest)) × T (await (ops_of lines) new_done) × T (rise (ops_of lines)) × ((s : Layout) (n : Rows) → line.new_row ≡ row_if_new s line.op → entries n ≡ old_done ++ old_rest → entries (act s given line.op n) ≡ new_done ++ moved_rest)
-  turn = (turn-order, turn-awaits, turn-rises, turn-acts)
+-- what follows from a fact about an answer that is Ok
+pub on-ok : {X E : Type 0} (r : Result X E) (A B : Type 0) → (A → B) → OnOk r A → OnOk r B
+on-ok (Ok x) A B f a = f a
+on-ok (Err e) A B f a = tt
 
 pub no-items : {X : Type 0} (xs : List X) → length xs ≡ 0 → xs ≡ []
 no-items [] e = refl
@@ -147,10 +137,11 @@ merged-order m es e = subst (λ es. T (is_sorted key_cmp es)) e (entries_sorted 
 pub merged-map : (m : Rows) (es : List Pair) → entries m ≡ es → from_sorted {R = key_cmp} es ≡ m
 merged-map m es e = same_entries_map _ m (entries-from_sorted key_cmp es (merged-order m es e) ∙ sym e)
 
--- one more prepared line
-pub prepared-push : (s : Layout) (ls : List Line) (l : Line) → ArePrepared s ls → l.new_row ≡ row_if_new s l.op → ArePrepared s (ls ++ l ∷ [])
-prepared-push s [] l h p = (p, tt)
-prepared-push s (k ∷ ls) l h p = (h.0, prepared-push s ls l h.1 p)
+-- what a merge of sorted lines wrote is the map after the load
+pub load-merged : (s : Layout) (load : Load) (before m : Rows) (given : List ℕ) (lines sorted : List Op) (es : List Pair) → before ≡ m → lines ≡ load.ops → given ≡ load.given
+    → after_lines s load.given sorted m ≡ after_lines s load.given lines m → entries (after_lines s given sorted m) ≡ es → entries (after s load before) ≡ es
+load-merged s load before m given lines sorted es is whole carried same merged =
+    ap entries ((λ i. after_lines s load.given (sym whole i) (is i)) ∙ sym same) ∙ ap (λ g. entries (after_lines s g sorted m)) (sym carried) ∙ merged
 
 -- a stable sort by keys
 abbrev pub before : Op → Op → Truth
@@ -181,22 +172,51 @@ tied q k = ap (λ o. not (is_lt (key_cmp q k)) && not (is_lt o)) (key_total.anti
     by Equal = refl
     by Greater = refl
 
-result-filter : (s : Layout) (given : List ℕ) (q : List Value) (p : Op → Truth) → ((op : Op) → p op ≡ eq_by_cmp key_cmp q (key_named op))
+-- lines that a test leaves out don't count at a key where it takes each line that names the key
+result-filter : (s : Layout) (given : List ℕ) (q : List Value) (p : Op → Truth) → ((op : Op) → eq_by_cmp key_cmp q (key_named op) ≡ true → p op ≡ true)
     → (ops : List Op) (old : Option (List Value)) → result_for s given (filter p ops) q old ≡ result_for s given ops q old
-result-filter s given q p same [] old = refl
-result-filter s given q p same (op ∷ ops) old =
+result-filter s given q p takes [] old = refl
+result-filter s given q p takes (op ∷ ops) old =
     elim (p op) as (λ t. p op ≡ t → result_for s given (cond t (op ∷ filter p ops) (filter p ops)) q old ≡ result_for s given (op ∷ ops) q old) [
-      | true ↦ λ e. result-filter s given q p same ops (cond (eq_by_cmp key_cmp q (key_named op)) (row_after s given op old) old)
-      | false ↦ λ e. result-filter s given q p same ops old ∙ ap (λ b. result_for s given ops q (cond b (row_after s given op old) old)) (sym e ∙ same op)
+      | true ↦ λ e. result-filter s given q p takes ops (cond (eq_by_cmp key_cmp q (key_named op)) (row_after s given op old) old)
+      | false ↦ λ e. result-filter s given q p takes ops old ∙ ap (λ b. result_for s given ops q (cond b (row_after s given op old) old)) (sym (left_out (eq_by_cmp key_cmp q (key_named op)) refl e))
     ] refl
+  where
+    left_out : (t : Truth) → eq_by_cmp key_cmp q (key_named op) ≡ t → p op ≡ false → eq_by_cmp key_cmp q (key_named op) ≡ false
+    left_out false e f = e
+    left_out true e f = let clash : true ≡ false = sym (takes op e) ∙ f in cc
 
--- lines of one key in their old order leave the same rows
-pub same-sorted : (xs ys : List Op) → IsStableBy before xs ys → (s : Layout) (given : List ℕ) (m : Rows) → after_lines s given ys m ≡ after_lines s given xs m
-same-sorted xs ys stable s given m = same_map key_total key_exact _ _ (λ q.
-    let p : Op → Truth = ties before (Delete q) in
-    let at : (op : Op) → p op ≡ eq_by_cmp key_cmp q (key_named op) = λ op. tied q (key_named op) in
-    get-after s given ys m q
-    ∙ sym (result-filter s given q p at ys (get m q))
-    ∙ ap (λ ops. result_for s given ops q (get m q)) (stable (Delete q))
-    ∙ result-filter s given q p at xs (get m q)
-    ∙ sym (get-after s given xs m q))
+-- lines in another order, of which those of one key have kept theirs, give each key the same result
+abbrev pub SameResults : List Op → List Op → Type 0
+SameResults xs ys = (s : Layout) (given : List ℕ) (key : List Value) (old : Option (List Value)) → result_for s given ys key old ≡ result_for s given xs key old
+
+-- a stable sort gives them, where lines of one key tie
+stable-results : (xs ys : List Op) (lt : Op → Op → Truth) → ((a b : Op) → eq_by_cmp key_cmp (key_named a) (key_named b) ≡ true → ties lt a b ≡ true)
+    → IsStableBy lt xs ys → SameResults xs ys
+stable-results xs ys lt tie stable s given q old =
+    let p : Op → Truth = ties lt (Delete q) in
+    let takes : (op : Op) → eq_by_cmp key_cmp q (key_named op) ≡ true → p op ≡ true = λ op e. tie (Delete q) op e in
+    sym (result-filter s given q p takes ys old) ∙ ap (λ ops. result_for s given ops q old) (stable (Delete q)) ∙ result-filter s given q p takes xs old
+
+pub by-key-results : (xs ys : List Op) → IsStableBy before xs ys → SameResults xs ys
+by-key-results xs ys stable = stable-results xs ys before (λ a b e. tied (key_named a) (key_named b) ∙ e) stable
+
+-- and so does a stable sort by a number of the key
+by-number-results : (number : List Value → ℕ) (xs ys : List Op) → IsStableBy (λ a b. is_lt (nat_cmp (number (key_named a)) (number (key_named b)))) xs ys → SameResults xs ys
+by-number-results number xs ys stable = stable-results xs ys (λ a b. is_lt (nat_cmp (number (key_named a)) (number (key_named b)))) alike stable
+  where
+    itself : (n : ℕ) → (not (is_lt (nat_cmp n n)) && not (is_lt (nat_cmp n n))) ≡ true
+    itself n = ap (λ o. not (is_lt o) && not (is_lt o)) (tied_itself nat_cmp_total n)
+
+    alike : (a b : Op) → eq_by_cmp key_cmp (key_named a) (key_named b) ≡ true → ties (λ x y. is_lt (nat_cmp (number (key_named x)) (number (key_named y)))) a b ≡ true
+    alike a b e = subst (λ k. (not (is_lt (nat_cmp (number (key_named a)) (number k))) && not (is_lt (nat_cmp (number k) (number (key_named a))))) ≡ true)
+        (tells_apart key_exact (key_named a) (key_named b) e) (itself (number (key_named a)))
+
+-- sorted by the number and then by the key, lines of one key have kept their order
+pub twice-sorted : (number : List Value → ℕ) (xs ys zs : List Op) → IsStableBy (λ a b. is_lt (nat_cmp (number (key_named a)) (number (key_named b)))) xs ys
+    → IsStableBy before ys zs → SameResults xs zs
+twice-sorted number xs ys zs h k s given key old = by-key-results ys zs k s given key old ∙ by-number-results number xs ys h s given key old
+
+-- so they leave the same rows
+pub same-rows : (xs ys : List Op) → SameResults xs ys → (s : Layout) (given : List ℕ) (m : Rows) → after_lines s given ys m ≡ after_lines s given xs m
+same-rows xs ys same s given m = same_map key_total key_exact _ _ (λ q. get-after s given ys m q ∙ same s given q (get m q) ∙ sym (get-after s given xs m q))

@@ -13,8 +13,7 @@ use Rattle.std.specs.FinMap.{entries, entries_sorted, entries-insert, entries-fr
 use Rattle.pk_values.specs.Order.{key_cmp}
 use Rattle.pk_values.specs.OrderFacts.{key_total, key_exact}
 use Rattle.pk_values.specs.declared.cells.Value.{Value}
-use Rattle.pk_model.specs.Runs.{Pair, HasRoom, are_below, are_up_to, begins_up_to, ends_at}
-use Rattle.pk_model.specs.declared.runs.Run.{Run}
+use Rattle.pk_model.specs.Runs.{Pair, are_below, are_up_to, begins_up_to, ends_at}
 use Rattle.pk_model.specs.Tables.{Rows}
 
 pub both : (a b : Truth) → T a → T b → T (a && b)
@@ -92,15 +91,6 @@ ends-get k (j ∷ q ∷ ks) (v ∷ w ∷ vs) (suc i) x e l h =
 -- a loop that moves one pair after the other from what is left to what is written
 pub moved-one : (old new left rest : List Pair) (e : Pair) → new ≡ old ++ e ∷ [] → left ≡ e ∷ rest → new ++ rest ≡ old ++ left
 moved-one old new left rest e p q = ap (λ es. es ++ rest) p ∙ append_assoc old (e ∷ []) rest ∙ ap (λ es. old ++ es) (sym q)
-
-pub room-one : (r : Run) (left rest : List Pair) (e : Pair) → left ≡ e ∷ rest → HasRoom r (length left) → HasRoom r (length rest + 1)
-room-one r left rest e p h = let n : length left ≡ length rest + 1 = ap length p ∙ omega arith in subst (HasRoom r) n h
-
-pub room-more : (r : Run) (left rest : List Pair) (e : Pair) (n : ℕ) → left ≡ e ∷ rest → HasRoom r (length left + n) → HasRoom r (length rest + n + 1)
-room-more r left rest e n p h =
-    let a : length left ≡ suc (length rest) = ap length p in
-    let m : length left + n ≡ length rest + n + 1 = omega arith in
-    subst (HasRoom r) m h
 
 pub nothing-left : (written left : List Pair) → left ≡ [] → written ≡ written ++ left
 nothing-left written left e = sym (append-nil written) ∙ ap (λ es. written ++ es) (sym e)

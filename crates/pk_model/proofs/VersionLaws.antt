@@ -47,13 +47,13 @@ length_dropped (suc n) [] = omega arith
 length_dropped (suc n) (x ∷ xs) = length_dropped n xs ∙ omega arith
 
 -- a kept version by its place from the floor on
-kept : (b : Book) (v : ℕ) → b.floor ≤ v → rows_at b v ≡ slice_get (b.older ++ b.current ∷ []) (v - b.floor)
+pub kept : (b : Book) (v : ℕ) → b.floor ≤ v → rows_at b v ≡ slice_get (b.older ++ b.current ∷ []) (v - b.floor)
 kept b v l = elim (nat_lt v b.floor) as (λ t. nat_lt v b.floor ≡ t → (if t then None else slice_get (b.older ++ b.current ∷ []) (v - b.floor)) ≡ slice_get (b.older ++ b.current ∷ []) (v - b.floor)) [
   | true ↦ λ e. absurd (omega (arith, ltb-true v b.floor e))
   | false ↦ λ e. refl
 ] refl
 
-gone : (b : Book) (v : ℕ) → v < b.floor → rows_at b v ≡ None
+pub gone : (b : Book) (v : ℕ) → v < b.floor → rows_at b v ≡ None
 gone b v l = elim (nat_lt v b.floor) as (λ t. nat_lt v b.floor ≡ t → (if t then None else slice_get (b.older ++ b.current ∷ []) (v - b.floor)) ≡ None) [
   | true ↦ λ e. refl
   | false ↦ λ e. absurd (omega (arith, ltb-false v b.floor e))
@@ -84,7 +84,7 @@ pub end-leaves-rows : EndLeavesRows
 end-leaves-rows b begun v = end-leaves b (plan_at b.plan begun) v
 
 -- an expiry that is not ahead of the current version
-expired : (b : Book) (f : ℕ) → f ≤ version b → change_expire b f ≡ record b { floor = max b.floor f; older = drop (f - b.floor) b.older }
+pub expired : (b : Book) (f : ℕ) → f ≤ version b → change_expire b f ≡ record b { floor = max b.floor f; older = drop (f - b.floor) b.older }
 expired b f l = elim (nat_lt (version b) f) as (λ t. nat_lt (version b) f ≡ t → (if t then b else record b { floor = max b.floor f; older = drop (f - b.floor) b.older }) ≡ record b { floor = max b.floor f; older = drop (f - b.floor) b.older }) [
   | true ↦ λ e. absurd (omega (arith, ltb-true (version b) f e))
   | false ↦ λ e. refl

@@ -1,7 +1,6 @@
 -- Which loads write: the last line of some key is an upsert, in file order and in the order of the keys alike.
 use Rattle.std.proofs.Common.{◌≡◌, ◌-◌, take, refl, ap, sym, subst, ◌∙◌, ℕ, zero, suc, ◌+◌, ◌<◌, arith, add-one, List, [], ◌∷◌, length, drop, get_or, Option, None, is_some, cond, not, Bool as Truth, true, false, ◌&&◌, ◌||◌, T}
 use Rattle.std.specs.List.{list_any}
-use Rattle.std.specs.List.Sorted.{IsStableBy}
 use Rattle.std.specs.Ordering.{eq_by_cmp, is_le, is_eq}
 use Rattle.std.specs.declared.cmp.Ordering.{Ordering}
 use Rattle.std.specs.declared.cmp.Ordering.TheVariants.{Less, Equal, Greater}
@@ -21,7 +20,7 @@ use Rattle.pk_model.specs.Merges.{rise, names_next}
 use Rattle.pk_model.proofs.CellLaws.{neither}
 use Rattle.pk_model.proofs.RunLaws.{first, second}
 use Rattle.pk_model.proofs.LoadLaws.{get-after}
-use Rattle.pk_model.proofs.MergeLaws.{before, rise-next, same-sorted}
+use Rattle.pk_model.proofs.MergeLaws.{SameResults, rise-next}
 
 -- lines that don't name a key leave its row
 pub unnamed : (s : Layout) (given : List ℕ) (ops : List Op) (key : List Value) (old : Option (List Value))
@@ -92,13 +91,8 @@ alike xs ys same = by (writes xs) (writes ys) refl refl
     by true false p q = absurd (only xs ys (λ key. same s [] key) p q)
     by false true p q = absurd (only ys xs (λ key. sym (same s [] key)) q p)
 
-pub writes-sorted : (xs ys : List Op) → IsStableBy before xs ys → writes ys ≡ writes xs
-writes-sorted xs ys stable = alike ys xs (λ s given q.
-    ap (result_for s given ys q) (sym (get-empty key_cmp q))
-    ∙ sym (get-after s given ys empty q)
-    ∙ ap (λ m. get m q) (same-sorted xs ys stable s given empty)
-    ∙ get-after s given xs empty q
-    ∙ ap (result_for s given xs q) (get-empty key_cmp q))
+pub writes-sorted : (xs ys : List Op) → SameResults xs ys → writes ys ≡ writes xs
+writes-sorted xs ys same = alike ys xs (λ s given q. same s given q None)
 
 -- in the order of the keys a key that a later line names is named by the next one
 below : (k a b : List Value) → key_cmp k a ≡ Less → T (is_le (key_cmp a b)) → key_cmp k b ≡ Less

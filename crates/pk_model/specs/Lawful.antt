@@ -45,12 +45,12 @@ fits_line s given (Delete key) = fits_key s key
 fits_line s given (Upsert key cells) = fits_key s key && fits_given s given cells
 
 -- a key's code has at most so many bytes
-abbrev pub most_bytes : ℕ
-most_bytes = 128
+abbrev pub most_code_bytes : ℕ
+most_code_bytes = 128
 
 -- the key that a line names has a code that is short enough
 abbrev pub HasShortKey : Layout → Op → Type 0
-HasShortKey s op = length (key_code s (key_named op)) ≤ most_bytes
+HasShortKey s op = length (key_code s (key_named op)) ≤ most_code_bytes
 
 -- the carried columns are a rising list of columns outside the key with each needed one among them, keys and cells fit, no key's code is too long, and there are not too many lines
 pub record IsLawful (s : Layout) (load : Load) : Type 0 where

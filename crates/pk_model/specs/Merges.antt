@@ -1,5 +1,5 @@
 -- One merge of the lines of a load into the rows of a table: lines in the order of their keys, and what each does to the rows written so far.
-use Rattle.std.specs.Prelude.{◌≡◌, ℕ, List, [], ◌∷◌, ◌++◌, map, Bool as Truth, true, false, ◌&&◌, T, ⊤}
+use Rattle.std.specs.Prelude.{◌≡◌, ℕ, List, [], ◌∷◌, ◌++◌, Bool as Truth, true, false, ◌&&◌, T}
 use Rattle.std.specs.FinMap.{entries}
 use Rattle.std.specs.FinMap.Entries.{below_all, is_sorted}
 use Rattle.std.specs.Ordering.{eq_by_cmp, is_le}
@@ -7,22 +7,8 @@ use Rattle.pk_values.specs.Order.{key_cmp}
 use Rattle.pk_values.specs.Schemas.{Layout}
 use Rattle.pk_values.specs.declared.cells.Value.{Value}
 use Rattle.pk_model.specs.declared.calls.Op.{Op}
-use Rattle.pk_model.specs.declared.calls.Op.TheVariants.{Upsert, Delete}
-use Rattle.pk_model.specs.declared.merges.Line.{Line}
-use Rattle.pk_model.specs.Tables.{Rows, act, key_named, new_row}
+use Rattle.pk_model.specs.Tables.{Rows, act, key_named}
 use Rattle.pk_model.specs.Runs.{Pair, are_up_to}
-
--- the new row that a line may need
-abbrev pub row_if_new : Layout → Op → List Value
-row_if_new s (Delete key) = []
-row_if_new s (Upsert key cells) = new_row s key
-
-abbrev pub ArePrepared : Layout → List Line → Type 0
-ArePrepared s [] = ⊤
-ArePrepared s (l ∷ ls) = (l.new_row ≡ row_if_new s l.op) × ArePrepared s ls
-
-abbrev pub ops_of : List Line → List Op
-ops_of = map (λ l. l.op)
 
 -- each key is at most the next one
 abbrev pub rise : List Op → Truth
@@ -41,9 +27,8 @@ await [] es = true
 await (op ∷ ops) es = are_up_to (key_named op) es
 
 -- where the pairs written and the pairs after them are a map's, they are so again once the line has acted on both
-abbrev pub Settles : List ℕ → Op → List Value → List Pair → List Pair → Type 0
-Settles given op row old new = (s : Layout) (m : Rows) (after : List Pair)
-    → row ≡ row_if_new s op
+abbrev pub Settles : Layout → List ℕ → Op → List Pair → List Pair → Type 0
+Settles s given op old new = (m : Rows) (after : List Pair)
     → entries m ≡ old ++ after
     → T (are_up_to (key_named op) old)
     → T (below_all key_cmp (key_named op) after)

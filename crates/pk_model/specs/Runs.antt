@@ -1,8 +1,7 @@
 -- Keys beside their rows, in the order of the keys: what a merge has written, and what it has still to read.
-use Rattle.std.specs.Prelude.{ℕ, ◌+◌, ◌≤◌, List, [], ◌∷◌, length, Bool as Truth, true, false, ◌&&◌}
+use Rattle.std.specs.Prelude.{List, [], ◌∷◌, Bool as Truth, true, false, ◌&&◌}
 use Rattle.std.specs.List.{zip}
 use Rattle.std.specs.Ordering.{is_lt, is_le, eq_by_cmp}
-use Rattle.std.specs.Vec.{vec_capacity}
 use Rattle.pk_values.specs.Order.{key_cmp}
 use Rattle.pk_values.specs.declared.cells.Value.{Value}
 use Rattle.pk_model.specs.declared.runs.Run.{Run}
@@ -17,10 +16,6 @@ written r = zip r.keys.items r.rows.items
 
 abbrev pub unread : Rest → List Pair
 unread r = zip r.keys.items r.rows.items
-
--- n more rows need no memory
-abbrev pub HasRoom : Run → ℕ → Type 0
-HasRoom r n = (length r.keys.items + n ≤ vec_capacity r.keys) × (length r.rows.items + n ≤ vec_capacity r.rows)
 
 -- each key is below k
 abbrev pub are_below : List Value → List Pair → Truth

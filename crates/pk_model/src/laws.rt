@@ -1,6 +1,10 @@
 //! What holds of every load, book and history: functions that do nothing, each of which a clause gives its law.
 ghost use Rattle.pk_model.specs.Books.{new_book, FewVersions};
 ghost use Rattle.pk_model.specs.Laws.{CarriedCells, ClosedStays, CurrentRows, DeletedThenNew, ElseOnlyTakes, EndLeavesRows, ExpiryDrops, ExpiryKeepsVersion, FewStay, KeysRise, LastLineActs, LawfulKeepsKeys, LegalGoesOn, LoadMakesOne, NewVersion, NumbersAreFew, OlderStay, OpensKept, OneResultPerKey, OtherCells, OtherKeys, PrefixIsLegal, RefusalsLeave, ReplayGoesOn, RowsTellKeys, WriteLeavesRow};
+ghost use Rattle.pk_model.specs.LawfulRows.{CallsKeepRows, HistoriesKeepRows, LawfulLoadsKeepRows, ListedKeysFit, ListedRowsFit, NewBooksRowsAreLawful};
+ghost use Rattle.pk_model.specs.Durable.{DeviceRepliesLeaveDurable, DurableGoesOn, DurableIsKept, DurableKeeps, NewIsDurable, OthersLeaveDurable};
+ghost use Rattle.pk_model.specs.Histories.{AnswersAreOwn, ChangesCloseNothing, FaultsAloneClose, LegalAppends, NoDamageAfter, NoDamageAppends, NoDamageBefore, OwnReplyIsAnswer, ReplyLeavesOneOfThree, RestIsLegal};
+ghost use Rattle.pk_model.specs.Tasks.{EachCallHasTask, OthersAreAsWide, TaskRepliesMayCome, TasksAreNarrower};
 
 /// A load line by line gives each key the result of its own lines.
 pub fn one_result_per_key()
@@ -50,6 +54,8 @@ pub fn histories()
     ensures goes_on { ReplayGoesOn }
     ensures prefix { PrefixIsLegal }
     ensures legal { LegalGoesOn }
+    ensures appends { LegalAppends }
+    ensures rest { RestIsLegal }
     ensures closed { ClosedStays }
     ensures refusals { RefusalsLeave }
 {}
@@ -59,4 +65,48 @@ pub fn numbers()
     ensures new_book { FewVersions new_book }
     ensures few_versions { FewStay }
     ensures counts { NumbersAreFew }
+{}
+
+/// What calls are made for, and which replies of a device come there.
+pub fn tasks_of_calls()
+    ensures each { EachCallHasTask }
+    ensures narrower { TasksAreNarrower }
+    ensures others { OthersAreAsWide }
+    ensures replies { TaskRepliesMayCome }
+{}
+
+/// Whose replies stand in a history, and what each leaves.
+pub fn replies()
+    ensures own { AnswersAreOwn }
+    ensures answer { OwnReplyIsAnswer }
+    ensures after { ReplyLeavesOneOfThree }
+    ensures changes { ChangesCloseNothing }
+    ensures faults { FaultsAloneClose }
+{}
+
+/// Histories that tell of no damage.
+pub fn undamaged_histories()
+    ensures appends { NoDamageAppends }
+    ensures before { NoDamageBefore }
+    ensures rest { NoDamageAfter }
+{}
+
+/// What a crash keeps.
+pub fn durable_books()
+    ensures keeps { DurableKeeps }
+    ensures exactly { DurableIsKept }
+    ensures new { NewIsDurable }
+    ensures device { DeviceRepliesLeaveDurable }
+    ensures others { OthersLeaveDurable }
+    ensures goes_on { DurableGoesOn }
+{}
+
+/// Rows stay lawful.
+pub fn lawful_rows()
+    ensures load { LawfulLoadsKeepRows }
+    ensures new { NewBooksRowsAreLawful }
+    ensures call { CallsKeepRows }
+    ensures history { HistoriesKeepRows }
+    ensures rows { ListedRowsFit }
+    ensures keys { ListedKeysFit }
 {}

@@ -1,24 +1,17 @@
-ghost use Rattle.std.specs.Prelude.{◌≡◌, ℕ, ◌+◌, List, [], length, T, IfOk, not, ◌&&◌};
+ghost use Rattle.std.specs.Prelude.{◌≡◌, ℕ, List, length, T, IfOk, OnOk, not, ◌&&◌};
 ghost use Rattle.std.specs.FinMap.{entries, is_sorted};
 ghost use Rattle.pk_values.specs.Order.{key_cmp};
 ghost use Rattle.pk_values.specs.Schemas.{Layout};
 ghost use Rattle.pk_model.specs.Tables.{Rows, after_lines, is_upsert, key_named, writes};
-ghost use Rattle.pk_model.specs.Runs.{written, unread, HasRoom};
-ghost use Rattle.pk_model.specs.Merges.{ArePrepared, Settles, KeepsOrder, StaysUpTo, rise, ops_of, names_next, row_if_new};
+ghost use Rattle.pk_model.specs.Runs.{written};
+ghost use Rattle.pk_model.specs.Merges.{Settles, KeepsOrder, StaysUpTo, names_next, rise};
 
 use crate::calls::Op;
-use crate::lines::{new_row, write_cells};
+use crate::lines::written_row;
 use crate::runs::{Rest, Run};
-use pk_values::{Key, Row, Schema};
+use pk_values::{Key, Schema};
 use std::alloc::{AllocError, Global};
 use std::collections::VecDeque;
-
-// A line of a load, with the new row that it needs where its key has none.
-#[derive(Drop)]
-pub struct Line {
-    pub op: Op,
-    pub new_row: Row,
-}
 
 // Sorts lines by their keys. The lines of one key stay in file order.
 pub fn sorted(mut ops: Vec<Op>) -> Result<Vec<Op>, AllocError>
@@ -64,65 +57,50 @@ fn names_next(key: &Key, ops: &[Op]) -> bool
     }
 }
 
-// Makes the new rows that lines may need.
-pub fn prepared(alloc: Global, schema: &Schema, ops: Vec<Op>) -> Result<VecDeque<Line>, AllocError>
-    ensures prepared { IfOk result (λ lines. ArePrepared schema.now lines.items) }
-    ensures ops { IfOk result (λ lines. ops_of lines.items ≡ ops.items) }
-{
-    let mut lines = Vec::with_capacity(alloc, ops.len())?;
-    for op in ops {
-        let new_row = row_if_new(alloc, schema, &op)?;
-        let line = Line { op, new_row };
-        lines.push(line)?;
-    }
-    Ok(VecDeque::from(lines))
-}
-
-fn row_if_new(alloc: Global, schema: &Schema, op: &Op) -> Result<Row, AllocError>
-    ensures { IfOk result (λ row. row ≡ row_if_new schema.now op.now) }
-{
-    match op {
-        Op::Delete { .. } => Ok(Row {
-            cells: Vec::new(alloc),
-        }),
-        Op::Upsert { key, .. } => new_row(alloc, schema, key),
-    }
-}
-
-// Merges the lines of a load into the rows of a table, behind an empty run.
-pub fn merge(mut done: Run, table: Run, given: &[u32], mut lines: VecDeque<Line>) -> Run
-    requires room { HasRoom done (length (written table) + length lines.items) }
-    requires empty { written done ≡ [] }
+// Merges the lines of a load, in the order of their keys, into the rows of a table.
+pub fn merge(
+    alloc: Global,
+    schema: &Schema,
+    table: Run,
+    given: &[u32],
+    ops: Vec<Op>,
+) -> Result<Run, AllocError>
     requires in_order { T (is_sorted key_cmp (written table)) }
-    requires lines_rise { T (rise (ops_of lines.items)) }
-    ensures { (s : Layout) (m : Rows) → entries m ≡ written table → ArePrepared s lines.items → entries (after_lines s given.now (ops_of lines.items) m) ≡ written result }
+    requires lines_rise { T (rise ops.items) }
+    ensures { IfOk result (λ done. (m : Rows) → entries m ≡ written table → entries (after_lines schema.now given.now ops.items m) ≡ written done) }
 {
+    let mut done = Run::with_room(alloc, table.len().saturating_add(ops.len()))?;
     let mut rest = Rest::from_run(table);
-    while let Some(line) = lines.pop_front() {
-        done.advance(&mut rest, line.op.key());
-        settle(&mut done, given, line);
+    let mut lines = VecDeque::from(ops);
+    while let Some(op) = lines.pop_front() {
+        done.advance(&mut rest, op.key())?;
+        settle(alloc, schema, &mut done, given, op)?;
     }
-    done.append(rest);
-    done
+    done.append(rest)?;
+    Ok(done)
 }
 
 // Does a line to the rows written so far, of which the last may stand at its key.
-fn settle(done: &mut Run, given: &[u32], line: Line)
-    requires { HasRoom done.old 1 }
-    ensures acts { Settles given.now line.op line.new_row (written done.old) (written done.new) }
-    ensures in_order { KeepsOrder line.op (written done.old) (written done.new) }
-    ensures up_to { StaysUpTo line.op (written done.old) (written done.new) }
-    ensures room { (n : ℕ) → HasRoom done.old (n + 1) → HasRoom done.new n }
+fn settle(
+    alloc: Global,
+    schema: &Schema,
+    done: &mut Run,
+    given: &[u32],
+    op: Op,
+) -> Result<(), AllocError>
+    ensures acts { OnOk result (Settles schema.now given.now op (written done.old) (written done.new)) }
+    ensures in_order { OnOk result (KeepsOrder op (written done.old) (written done.new)) }
+    ensures up_to { OnOk result (StaysUpTo op (written done.old) (written done.new)) }
 {
-    let Line { op, new_row } = line;
     match op {
         Op::Delete { key } => {
             done.take(&key);
+            Ok(())
         }
         Op::Upsert { key, cells } => {
-            let mut row = done.take(&key).unwrap_or(new_row);
-            write_cells(&mut row, given, cells);
-            done.push(key, row);
+            let old = done.take(&key);
+            let (key, row) = written_row(alloc, schema, given, old, key, cells)?;
+            done.push(key, row)
         }
     }
 }

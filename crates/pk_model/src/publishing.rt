@@ -1,11 +1,13 @@
-ghost use Rattle.std.specs.Prelude.{◌≡◌, ◌<◌, ◌≤◌, ◌+◌, ◌^◌, ℕ, IfOk, OnOk, OnErr, None, false, if◌then◌else◌};
+ghost use Rattle.std.specs.Prelude.{◌≡◌, ◌<◌, ◌≤◌, ◌+◌, ◌^◌, ◌++◌, ◌∷◌, [], ℕ, IfOk, OnOk, OnErr, false, if◌then◌else◌};
 ghost use Rattle.pk_model.specs.Books.{answer, answer_load, change, change_load, greatest_number, is_full, MayReply};
 
 use crate::books::Book;
 use crate::calls::{Call, Load, Reply};
 use crate::copies::plan_after;
-use pk_values::Schema;
+use crate::tables::Table;
+use pk_values::{Items, Schema};
 use std::alloc::{AllocError, Global};
+use std::mem;
 
 // One more rowset where there is one to add.
 pub fn more_rowsets(rowsets: u64, one_more: bool) -> u64
@@ -13,6 +15,32 @@ pub fn more_rowsets(rowsets: u64, one_more: bool) -> u64
     ensures { result ≡ rowsets + (if one_more then 1 else 0) }
 {
     if one_more { rowsets + 1 } else { rowsets }
+}
+
+// Puts the current table behind the older ones, and another in its place, without a copy of either.
+fn add_version(
+    alloc: Global,
+    older: &mut Items<Table>,
+    current: &mut Table,
+    next: Table,
+) -> Result<(), AllocError>
+    ensures older { OnOk result (older.new ≡ older.old ++ current.old ∷ []) }
+    ensures current { OnOk result (current.new ≡ next) }
+    ensures older_stay { OnErr result (older.new ≡ older.old) }
+    ensures current_stays { OnErr result (current.new ≡ current.old) }
+{
+    let mut tables = mem::replace(older, Items::new(alloc)).into_vec();
+    match tables.reserve(1) {
+        Ok(()) => {
+            tables.push_reserved(mem::replace(current, next));
+            *older = Items::from_vec(tables);
+            Ok(())
+        }
+        Err(error) => {
+            *older = Items::from_vec(tables);
+            Err(error)
+        }
+    }
 }
 
 // Makes a version of an open book, unless it is full.
@@ -34,12 +62,10 @@ pub fn publish(
     }
     let version = book.version() + 1;
     let plan = plan_after(alloc, &book.plan, &load)?;
-    let mut next = book.current.copy(alloc)?;
-    let writes = next.apply(alloc, schema, load)?;
+    let rows = book.current.copy(alloc)?;
+    let (next, writes) = rows.after(alloc, schema, load)?;
     let rowsets = more_rowsets(book.rowsets, writes);
-    let kept = book.current.copy(alloc)?;
-    book.older.push(kept)?;
-    book.current = next;
+    add_version(alloc, &mut book.older, &mut book.current, next)?;
     book.rowsets = rowsets;
     book.plan = plan;
     Ok(Reply::Published(version))

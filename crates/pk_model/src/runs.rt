@@ -1,4 +1,4 @@
-ghost use Rattle.std.specs.Prelude.{◌≡◌, ℕ, ◌+◌, ◌≤◌, [], ◌∷◌, ◌++◌, length, IfSome, IfNone, T, IfOk, true, false};
+ghost use Rattle.std.specs.Prelude.{◌≡◌, [], ◌∷◌, ◌++◌, length, IfSome, IfNone, T, IfOk, OnOk, false};
 ghost use Rattle.std.specs.Option.{option_to_list};
 
 use pk_values::{Key, Row};
@@ -24,7 +24,7 @@ pub struct Rest {
 impl Run {
     ghost use Rattle.std.specs.FinMap.{is_sorted};
     ghost use Rattle.pk_values.specs.Order.{key_cmp};
-    ghost use Rattle.pk_model.specs.Runs.{written, unread, HasRoom, are_below, are_up_to, begins_up_to, ends_at};
+    ghost use Rattle.pk_model.specs.Runs.{written, unread, are_below, are_up_to, begins_up_to, ends_at};
 
     pub fn new(alloc: Global) -> Run
         ensures { written result ≡ [] }
@@ -37,8 +37,7 @@ impl Run {
 
     // An empty run with room for so many rows.
     pub fn with_room(alloc: Global, room: usize) -> Result<Run, AllocError>
-        ensures empty { IfOk result (λ run. written run ≡ []) }
-        ensures room { IfOk result (λ run. HasRoom run room) }
+        ensures { IfOk result (λ run. written run ≡ []) }
     {
         let keys = Vec::with_capacity(alloc, room)?;
         let rows = Vec::with_capacity(alloc, room)?;
@@ -59,13 +58,14 @@ impl Run {
         Ok(Run { keys, rows })
     }
 
-    pub fn push(&mut self, key: Key, row: Row)
-        requires { HasRoom self.old 1 }
-        ensures pairs { written self.new ≡ written self.old ++ (key, row) ∷ [] }
-        ensures room { (n : ℕ) → HasRoom self.old (n + 1) → HasRoom self.new n }
+    pub fn push(&mut self, key: Key, row: Row) -> Result<(), AllocError>
+        ensures { OnOk result (written self.new ≡ written self.old ++ (key, row) ∷ []) }
     {
+        self.keys.reserve(1)?;
+        self.rows.reserve(1)?;
         self.keys.push_reserved(key);
         self.rows.push_reserved(row);
+        Ok(())
     }
 
     // Takes the last row off where it stands at this key.
@@ -73,7 +73,6 @@ impl Run {
         ensures found { IfSome result (λ row. written self.old ≡ written self.new ++ (key.now, row) ∷ []) }
         ensures kept { IfNone result (written self.new ≡ written self.old) }
         ensures below { T (is_sorted key_cmp (written self.old)) → T (are_up_to key.now (written self.old)) → T (are_below key.now (written self.new)) }
-        ensures room { (n : ℕ) → HasRoom self.old n → HasRoom self.new n }
     {
         if !self.ends_at(key) {
             return None;
@@ -93,26 +92,25 @@ impl Run {
     }
 
     // Moves what has still to be read behind what is written.
-    pub fn append(&mut self, mut rest: Rest)
-        requires { HasRoom self.old (length (unread rest)) }
-        ensures { written self.new ≡ written self.old ++ unread rest }
+    pub fn append(&mut self, mut rest: Rest) -> Result<(), AllocError>
+        ensures { OnOk result (written self.new ≡ written self.old ++ unread rest) }
     {
         while let Some((key, row)) = rest.pop() {
-            self.push(key, row);
+            self.push(key, row)?;
         }
+        Ok(())
     }
 
     // Moves the rows up to a key behind what is written.
-    pub fn advance(&mut self, rest: &mut Rest, key: &Key)
-        requires { HasRoom self.old (length (unread rest.old)) }
-        ensures same { written self.new ++ unread rest.new ≡ written self.old ++ unread rest.old }
-        ensures behind { T (are_up_to key.now (written self.old)) → T (are_up_to key.now (written self.new)) }
-        ensures stops { begins_up_to key.now (unread rest.new) ≡ false }
-        ensures room { (n : ℕ) → HasRoom self.old (length (unread rest.old) + n) → HasRoom self.new (length (unread rest.new) + n) }
+    pub fn advance(&mut self, rest: &mut Rest, key: &Key) -> Result<(), AllocError>
+        ensures same { OnOk result (written self.new ++ unread rest.new ≡ written self.old ++ unread rest.old) }
+        ensures behind { OnOk result (T (are_up_to key.now (written self.old)) → T (are_up_to key.now (written self.new))) }
+        ensures stops { OnOk result (begins_up_to key.now (unread rest.new) ≡ false) }
     {
         while let Some((key, row)) = rest.next_up_to(key) {
-            self.push(key, row);
+            self.push(key, row)?;
         }
+        Ok(())
     }
 }
 

@@ -2,6 +2,7 @@
 use Rattle.std.specs.Prelude.{ℕ, ℤ, List, ⊤}
 use Rattle.pk_values.specs.declared.cells.Value.{Value}
 use Rattle.pk_values.specs.declared.cells.Value.TheVariants as value
+use Rattle.pk_values.specs.Texts.{LiesInPlace}
 
 abbrev pub IsFlag : Value → Type 0
 IsFlag (value.Bool b) = ⊤
@@ -18,3 +19,8 @@ IsDay P _ = ⊥
 abbrev pub IsText : (List ℕ → Type 0) → Value → Type 0
 IsText P (value.Text t) = P t
 IsText P _ = ⊥
+
+-- a value that lies in 32 bytes: any but a long text
+abbrev pub TakesNoMemory : Value → Type 0
+TakesNoMemory (value.Text t) = LiesInPlace t
+TakesNoMemory _ = ⊤

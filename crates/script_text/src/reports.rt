@@ -158,5 +158,5 @@ pub fn write_report(
     put_items(&mut out, order)?;
     put_bytes(&mut out, b"\n")?;
     put_jobs(&mut out, outcomes)?;
-    Ok(Octets::from_vec(out))
+    Octets::from_vec(alloc, out)
 }

@@ -43,7 +43,7 @@ fn footer_of(
 fn tail(alloc: Global, footer: &Footer) -> Result<Vec<u8>, AllocError>
     ensures { IfOk result (λ tail. tail.items ≡ tail_of footer.now) }
 {
-    let mut tail = write_footer(alloc, footer)?.into_vec();
+    let mut tail = write_footer(alloc, footer)?.into_vec(alloc)?;
     let length = tail.len() as u32;
     put_u32(&mut tail, length)?;
     Ok(tail)

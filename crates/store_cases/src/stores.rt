@@ -166,7 +166,7 @@ impl Stores {
 
     /// `area BYTES`: a store whose area 0 has these bytes.
     pub fn area(&mut self, alloc: Global, words: &str) -> Result<String, AllocError> {
-        let area = Octets::from_vec(bytes_of(alloc, words)?);
+        let area = Octets::from_vec(alloc, bytes_of(alloc, words)?)?;
         self.reader = None;
         self.store = holding(alloc, area, Vec::new(alloc), Faults::none(alloc))?;
         "new".to_string(alloc)
@@ -175,7 +175,7 @@ impl Stores {
     /// `file NUMBER BYTES`: a store with this file.
     pub fn file(&mut self, alloc: Global, words: &str) -> Result<String, AllocError> {
         let (name, text) = words.split_once(' ').unwrap_or((words, ""));
-        let bytes = Octets::from_vec(bytes_of(alloc, text)?);
+        let bytes = Octets::from_vec(alloc, bytes_of(alloc, text)?)?;
         self.reader = None;
         self.store = with_file(alloc, number(name), bytes)?;
         "new".to_string(alloc)

@@ -92,7 +92,7 @@ impl Streams {
         let (name, text) = words.split_once(' ').unwrap_or((words, ""));
         let name = Octets::from_slice(alloc, name.as_bytes())?;
         self.files
-            .push((name, Octets::from_vec(bytes_of(alloc, text)?)))?;
+            .push((name, Octets::from_vec(alloc, bytes_of(alloc, text)?)?))?;
         format!(in alloc; "{}", self.files.len())
     }
 

@@ -16,7 +16,7 @@ fn column(alloc: Global, words: &str, nullable: bool) -> Result<Option<Column>, 
     let Some(kind) = kind_of(word) else {
         return Ok(None);
     };
-    let name = Octets::from_vec(bytes_of(alloc, name)?);
+    let name = Octets::from_vec(alloc, bytes_of(alloc, name)?)?;
     let default = None;
     Ok(Some(Column {
         name,
@@ -184,7 +184,6 @@ pub fn items(alloc: Global, words: &str) -> Result<String, AllocError> {
     items.reserve(1)?;
     let count = items.len();
     let first = items.as_slice().first().copied().unwrap_or(0);
-    let octets = Octets::from_vec(Items::from_vec(items.into_vec()).into_vec()).copy(alloc)?;
-    let bytes = octets.into_vec();
-    format!(in alloc; "{was_empty} {count} {first} {:?}", bytes.as_slice())
+    let octets = Octets::from_vec(alloc, Items::from_vec(items.into_vec()).into_vec())?.copy(alloc)?;
+    format!(in alloc; "{was_empty} {count} {first} {:?}", octets.as_slice())
 }

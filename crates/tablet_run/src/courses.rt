@@ -7,7 +7,7 @@ ghost use Rattle.pk_model.specs.Lawful.{IsLawful};
 ghost use Rattle.pk_model.specs.Tables.{Rows};
 ghost use Rattle.pk_model.specs.Books.{MayReply, greatest_number, new_book, next, rows_at};
 ghost use Rattle.script_text.specs.Reports.{Reports, RowsOutcome, ScanReply};
-ghost use Rattle.script_text.specs.Texts.{AreWritable};
+ghost use Rattle.script_text.specs.Texts.{AreWritable, rows_text};
 ghost use Rattle.tablet_run.specs.Courses.{Adds, HaveTexts, IsCourse, HasFewBytes};
 ghost use Rattle.tablet_run.specs.Statuses.{EndsCalmly, RepliesCalmly};
 
@@ -45,18 +45,27 @@ fn load_reply(alloc: Global, schema: &Schema, book: &mut Book, load: Load) -> Re
     }
 }
 
+// The lines of rows in a report.
+fn lines_of_rows(alloc: Global, rows: &[Row]) -> Result<Octets, AllocError>
+    requires { AreWritable rows.now }
+    ensures { IfOk result (λ text. text ≡ rows_text rows.now) }
+{
+    let mut text = Vec::new(alloc);
+    put_rows(&mut text, rows)?;
+    Octets::from_vec(alloc, text)
+}
+
 // The rows of a version as a report has them.
 fn rows_outcome(alloc: Global, version: u64, rows: &[Row]) -> Outcome
     requires { AreWritable rows.now }
     ensures rows { (m : Rows) → rows.now ≡ map.values m → RowsOutcome version m result }
     ensures calm { EndsCalmly result }
 {
-    let mut text = Vec::new(alloc);
-    match put_rows(&mut text, rows) {
-        Ok(()) => Outcome::Rows {
+    match lines_of_rows(alloc, rows) {
+        Ok(text) => Outcome::Rows {
             version,
             count: rows.len() as u64,
-            text: Octets::from_vec(text),
+            text,
         },
         Err(_) => Outcome::Outside(OutsideFault::Memory),
     }

@@ -209,7 +209,10 @@ fn read_load_file<I: Inputs>(
         (left, 268_435_456)
     };
     let bytes = input(alloc, inputs, name, most, limit)?;
-    Ok(Octets::from_vec(bytes))
+    match Octets::from_vec(alloc, bytes) {
+        Ok(bytes) => Ok(bytes),
+        Err(_) => Err(Cause::Memory),
+    }
 }
 
 // Reads the file of a job, if it has one, after files of so many bytes.

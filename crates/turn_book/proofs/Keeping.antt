@@ -7,7 +7,7 @@ use native.Mathlib.Decide.{ℕ_discrete}
 use lib.ListN.{get_elem?}
 use Rattle.atomic_table.specs.Table.{State, Me, Step, step, Act, keeps, takes, gives, stepped, put_back, rest, Allows, Splits, Joins, opening, Final, Seen}
 use Rattle.atomic_table.proofs.Lists.{at_set, set_here, set_else, set_again, at_snoc, at_longer}
-use Rattle.turn_book.specs.declared.rule.View.{View}
+use Rattle.turn_book.specs.declared.rule.PassState.{PassState}
 use Rattle.turn_book.specs.Places.{Rises, Has, RiseUpTo, places_after}
 use Rattle.turn_book.specs.Turns.{lefts, Known, Apart, AtHome, AtTurn, Kept, spent, newcomer}
 use Rattle.turn_book.specs.Plays.{waiting, turning, ending, drew, awaited, ended, looked, kept_part, given_part, joined}
@@ -39,47 +39,47 @@ rises_length low [] n le r all = omega arith
 rises_length low (x ∷ xs) n le r all = let a = r.0 in let h = rises_length x xs n (all x (inl refl)) r.1 (λ p h. all p (inr h)) in omega arith
 
 module _ {E O : Type 0} where
-  pub lefts_set : (vs : List (View E O)) (id : ℕ) (v w : View E O) → get_elem? vs id ≡ some v → lefts (set vs id w) + v.left ≡ lefts vs + w.left
+  pub lefts_set : (vs : List (PassState E O)) (id : ℕ) (v w : PassState E O) → get_elem? vs id ≡ some v → lefts (set vs id w) + v.left ≡ lefts vs + w.left
   lefts_set [] id v w e = absurd (some-ne-none v (sym e))
-  lefts_set (x ∷ xs) zero v w e = let s : x.left ≡ v.left = ap (λ (y : View E O). y.left) (some-injective x v e) in omega arith
+  lefts_set (x ∷ xs) zero v w e = let s : x.left ≡ v.left = ap (λ (y : PassState E O). y.left) (some-injective x v e) in omega arith
   lefts_set (x ∷ xs) (suc id) v w e = let h = lefts_set xs id v w e in omega arith
 
-  pub lefts_least : (vs : List (View E O)) (id : ℕ) (v : View E O) → get_elem? vs id ≡ some v → v.left ≤ lefts vs
+  pub lefts_least : (vs : List (PassState E O)) (id : ℕ) (v : PassState E O) → get_elem? vs id ≡ some v → v.left ≤ lefts vs
   lefts_least [] id v e = absurd (some-ne-none v (sym e))
-  lefts_least (x ∷ xs) zero v e = let s : x.left ≡ v.left = ap (λ (y : View E O). y.left) (some-injective x v e) in omega arith
+  lefts_least (x ∷ xs) zero v e = let s : x.left ≡ v.left = ap (λ (y : PassState E O). y.left) (some-injective x v e) in omega arith
   lefts_least (x ∷ xs) (suc id) v e = let h = lefts_least xs id v e in omega arith
 
-  pub lefts_snoc : (vs : List (View E O)) (w : View E O) → lefts (vs ++ w ∷ []) ≡ lefts vs + w.left
+  pub lefts_snoc : (vs : List (PassState E O)) (w : PassState E O) → lefts (vs ++ w ∷ []) ≡ lefts vs + w.left
   lefts_snoc [] w = omega arith
   lefts_snoc (x ∷ xs) w = let h = lefts_snoc xs w in omega arith
 
-  pub apart_sym : (v w : View E O) → Apart v w → Apart w v
+  pub apart_sym : (v w : PassState E O) → Apart v w → Apart w v
   apart_sym v w a = record { tickets = λ x y e. a.tickets y x (sym e); places = λ p x y. a.places p y x }
 
-  pub each_set : (K : View E O → Type 0) (vs : List (View E O)) (id : ℕ) (w : View E O) → K w → ((j : ℕ) (v : View E O) → j ≢ id → get_elem? vs j ≡ some v → K v)
-      → (j : ℕ) (v : View E O) → get_elem? (set vs id w) j ≡ some v → K v
+  pub each_set : (K : PassState E O → Type 0) (vs : List (PassState E O)) (id : ℕ) (w : PassState E O) → K w → ((j : ℕ) (v : PassState E O) → j ≢ id → get_elem? vs j ≡ some v → K v)
+      → (j : ℕ) (v : PassState E O) → get_elem? (set vs id w) j ≡ some v → K v
   each_set K vs id w mine others j v e = ⊎_elim (λ (t : (j ≡ id) × (w ≡ v)). subst K t.1 mine) (λ (t : (j ≢ id) × (get_elem? vs j ≡ some v)). others j v t.0 t.1) (at_set vs id j w v e)
 
-  abbrev pub AllApart : List (View E O) → Type 0
-  AllApart vs = (i j : ℕ) (v w : View E O) → i ≢ j → get_elem? vs i ≡ some v → get_elem? vs j ≡ some w → Apart v w
+  abbrev pub AllApart : List (PassState E O) → Type 0
+  AllApart vs = (i j : ℕ) (v w : PassState E O) → i ≢ j → get_elem? vs i ≡ some v → get_elem? vs j ≡ some w → Apart v w
 
-  pub apart_set : (vs : List (View E O)) (id : ℕ) (w : View E O) → AllApart vs → ((j : ℕ) (v : View E O) → j ≢ id → get_elem? vs j ≡ some v → Apart w v) → AllApart (set vs id w)
+  pub apart_set : (vs : List (PassState E O)) (id : ℕ) (w : PassState E O) → AllApart vs → ((j : ℕ) (v : PassState E O) → j ≢ id → get_elem? vs j ≡ some v → Apart w v) → AllApart (set vs id w)
   apart_set vs id w all mine i j a b ne ea eb = ⊎_elim
       (λ (t : (i ≡ id) × (w ≡ a)). ⊎_elim (λ (u : (j ≡ id) × (w ≡ b)). absurd (ne (t.0 ∙ sym u.0)))
-      (λ (u : (j ≢ id) × (get_elem? vs j ≡ some b)). subst (λ (z : View E O). Apart z b) t.1 (mine j b u.0 u.1)) (at_set vs id j w b eb))
-      (λ (t : (i ≢ id) × (get_elem? vs i ≡ some a)). ⊎_elim (λ (u : (j ≡ id) × (w ≡ b)). subst (λ (z : View E O). Apart a z) u.1 (apart_sym w a (mine i a t.0 t.1)))
+      (λ (u : (j ≢ id) × (get_elem? vs j ≡ some b)). subst (λ (z : PassState E O). Apart z b) t.1 (mine j b u.0 u.1)) (at_set vs id j w b eb))
+      (λ (t : (i ≢ id) × (get_elem? vs i ≡ some a)). ⊎_elim (λ (u : (j ≡ id) × (w ≡ b)). subst (λ (z : PassState E O). Apart a z) u.1 (apart_sym w a (mine i a t.0 t.1)))
       (λ (u : (j ≢ id) × (get_elem? vs j ≡ some b)). all i j a b ne t.1 u.1) (at_set vs id j w b eb)) (at_set vs id i w a ea)
 
-  pub each_snoc : (K : View E O → Type 0) (vs : List (View E O)) (w : View E O) → K w → ((j : ℕ) (v : View E O) → get_elem? vs j ≡ some v → K v) → (j : ℕ) (v : View E O) → get_elem? (vs ++ w ∷ []) j ≡ some v → K v
+  pub each_snoc : (K : PassState E O → Type 0) (vs : List (PassState E O)) (w : PassState E O) → K w → ((j : ℕ) (v : PassState E O) → get_elem? vs j ≡ some v → K v) → (j : ℕ) (v : PassState E O) → get_elem? (vs ++ w ∷ []) j ≡ some v → K v
   each_snoc K vs w mine others j v e = ⊎_elim (λ (t : get_elem? vs j ≡ some v). others j v t) (λ (t : w ≡ v). subst K t mine) (at_snoc vs w v j e)
 
-  pub apart_snoc : (vs : List (View E O)) (w : View E O) → AllApart vs → ((v : View E O) → Apart w v) → AllApart (vs ++ w ∷ [])
+  pub apart_snoc : (vs : List (PassState E O)) (w : PassState E O) → AllApart vs → ((v : PassState E O) → Apart w v) → AllApart (vs ++ w ∷ [])
   apart_snoc vs w all alone i j a b ne ea eb = ⊎_elim
-      (λ (t : get_elem? vs i ≡ some a). ⊎_elim (λ (u : get_elem? vs j ≡ some b). all i j a b ne t u) (λ (u : w ≡ b). subst (λ (z : View E O). Apart a z) u (apart_sym w a (alone a))) (at_snoc vs w b j eb))
-      (λ (t : w ≡ a). subst (λ (z : View E O). Apart z b) t (alone b)) (at_snoc vs w a i ea)
+      (λ (t : get_elem? vs i ≡ some a). ⊎_elim (λ (u : get_elem? vs j ≡ some b). all i j a b ne t u) (λ (u : w ≡ b). subst (λ (z : PassState E O). Apart a z) u (apart_sym w a (alone a))) (at_snoc vs w b j eb))
+      (λ (t : w ≡ a). subst (λ (z : PassState E O). Apart z b) t (alone b)) (at_snoc vs w a i ea)
 
   -- one more turn is drawn
-  pub known_later : (o : O) (log : List E) (next next' : ℕ) (v : View E O) → next ≤ next' → Known o log next v → Known o log next' v
+  pub known_later : (o : O) (log : List E) (next next' : ℕ) (v : PassState E O) → next ≤ next' → Known o log next v → Known o log next' v
   known_later o log next next' v le k = record {
     opened = k.opened;
     begins = k.begins;
@@ -92,7 +92,7 @@ module _ {E O : Type 0} where
 
 module _ {T E O : Type 0} (legal : O → List E → Type 0) (outcome : O → List E → T → Type 0) (turns : ℕ) (o : O) where
   abbrev W : Type 0
-  W = View E O
+  W = PassState E O
 
   abbrev St : Type 0
   St = State (Option T) W

@@ -2,7 +2,7 @@
 use Rattle.std.specs.Prelude.{◌≡◌, ◌≢◌, ℕ, ◌+◌, ◌-◌, ◌^◌, ◌<◌, ◌≤◌, List, [], ◌∷◌, ◌++◌, length, Option, Some}
 use mathlib.Core.List.{IsPrefix}
 use Rattle.atomic_table.specs.Table.{Me, Step}
-use Rattle.turn_book.specs.declared.rule.View.{View}
+use Rattle.turn_book.specs.declared.rule.PassState.{PassState}
 use native.Mathlib.Decide.{dec_le}
 use Rattle.turn_book.specs.Places.{RiseUpTo, pick, merged}
 
@@ -14,26 +14,26 @@ module _ {E : Type 0} where
   shorter_of xs ys = pick (dec_le (length xs) (length ys)) xs ys
 
 module _ {E O : Type 0} where
-  abbrev pub kept_part : ℕ → View E O → View E O
+  abbrev pub kept_part : ℕ → PassState E O → PassState E O
   kept_part n v = record v { left = v.left - n }
 
-  abbrev pub given_part : ℕ → View E O → View E O
+  abbrev pub given_part : ℕ → PassState E O → PassState E O
   given_part n v = record { opening = v.opening; seen = v.seen; shorter = []; mine = []; left = n; stage = 0; ticket = 0 }
 
-  abbrev pub joined : View E O → View E O → View E O
+  abbrev pub joined : PassState E O → PassState E O → PassState E O
   joined v w = record { opening = v.opening; seen = longer v.seen w.seen; shorter = shorter_of v.seen w.seen; mine = merged v.mine w.mine; left = v.left + w.left; stage = v.stage; ticket = v.ticket }
 
-  abbrev pub waiting : View E O → ℕ → View E O
+  abbrev pub waiting : PassState E O → ℕ → PassState E O
   waiting v t = record v { left = v.left - 1; stage = 1; ticket = t }
 
-  abbrev pub turning : View E O → List E → View E O
+  abbrev pub turning : PassState E O → List E → PassState E O
   turning v log = record v { seen = log; shorter = []; stage = 2 }
 
-  abbrev pub ending : View E O → List E → View E O
+  abbrev pub ending : PassState E O → List E → PassState E O
   ending v more = record v { seen = v.seen ++ more; mine = v.mine ++ (length v.seen + 1) ∷ []; stage = 0; ticket = 0 }
 
 abbrev pub Sat : Type 0 → Type 0 → Type 0 → Type 0
-Sat T E O = Me (Option T) (View E O)
+Sat T E O = Me (Option T) (PassState E O)
 
 module _ {T E O : Type 0} where
   abbrev pub drew : Step (Option T) → Sat T E O → ℕ → Sat T E O → Type 0

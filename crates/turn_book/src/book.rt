@@ -11,7 +11,7 @@ ghost use Rattle.turn_book.specs.Passes.{Booking, Holding, IsOf, blank, share, l
 
 use crate::replayed::{Act, Replayed};
 use crate::rule::Terms;
-use crate::steps::{Desk, Place, cut, end_all, glue, play_turn};
+use crate::steps::{Desk, PassSeat, cut, end_all, glue, play_turn};
 use atomic_table::{Refused, Table};
 use std::alloc::{AllocError, AllocFailed, Global};
 use std::marker::{Brand, Model};
@@ -21,7 +21,7 @@ use std::sync::Wait;
 /// What one caller knows of the history of its book, which of the calls there are its own, and how many turns it may still take.
 /// A pass that is dropped takes its turns with it, and its book can then not be closed.
 pub struct Pass<T: Replayed> {
-    seat: Place<T>,
+    seat: PassSeat<T>,
     left: u64,
     used: u64,
 }
@@ -73,7 +73,7 @@ impl<T: Replayed> Pass<T> {
     }
 
     // The seat, the turns left and the number of calls.
-    fn open(self) -> (Place<T>, u64, u64)
+    fn open(self) -> (PassSeat<T>, u64, u64)
         ensures seat { (result.0.table_id ≡ self.book) × (result.0.me.1 ≡ []) × (result.0.me.0.stage ≡ 0) }
         ensures view { (result.0.me.0.opening ≡ self.opening) × (result.0.me.0.seen ≡ self.seen) × (result.0.me.0.mine ≡ self.mine) × (result.0.me.0.left ≡ self.left) }
         ensures counts { (result.1 ≡ self.left) × (result.1 ≤ 2 ^ 62) × (result.2 ≡ length self.mine) × (result.2 ≤ 2 ^ 62) }

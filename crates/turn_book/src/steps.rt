@@ -6,7 +6,7 @@ ghost use Rattle.turn_book.specs.Places.{Rises, RiseUpTo, places_after, merged};
 
 use crate::plays::{Added, Await, Cut, Draw, End, Glue, Look, Parted};
 use crate::replayed::{Act, Replayed};
-use crate::rule::{InTurn, Terms, View};
+use crate::rule::{InTurn, PassState, Terms};
 use atomic_table::{Seat, Shared, Table};
 use std::alloc::Global;
 use std::marker::Brand;
@@ -16,16 +16,16 @@ use std::sync::Wait;
 /// The table as those who take turns share it.
 pub type Board<T> = Shared<
     Option<T>,
-    View<<T as Replayed>::Entry, <T as Replayed>::Opening>,
+    PassState<<T as Replayed>::Entry, <T as Replayed>::Opening>,
     Terms<T>,
     InTurn<T>,
 >;
 
 /// A seat at the table, which a pass holds.
-pub type Place<T> = Seat<Option<T>, View<<T as Replayed>::Entry, <T as Replayed>::Opening>>;
+pub type PassSeat<T> = Seat<Option<T>, PassState<<T as Replayed>::Entry, <T as Replayed>::Opening>>;
 
 // Takes a ticket.
-pub(crate) fn draw<T: Replayed>(board: &Board<T>, seat: &mut Place<T>) -> u64
+pub(crate) fn draw<T: Replayed>(board: &Board<T>, seat: &mut PassSeat<T>) -> u64
     requires place { (seat.old.table_id ≡ board.now.table_id) × (board.now.table_id.words ≡ 2) }
     requires rests { (seat.old.me.0.stage ≡ 0) × (0 < seat.old.me.0.left) }
     ensures place { (seat.new.table_id ≡ seat.old.table_id) × (seat.new.id ≡ seat.old.id) }
@@ -38,7 +38,7 @@ pub(crate) fn draw<T: Replayed>(board: &Board<T>, seat: &mut Place<T>) -> u64
 pub(crate) fn await_turn<T: Replayed, R: Wait>(
     rt: &R,
     board: &Board<T>,
-    seat: &mut Place<T>,
+    seat: &mut PassSeat<T>,
     ticket: u64,
 )
     requires place { (seat.old.table_id ≡ board.now.table_id) × (board.now.table_id.words ≡ 2) }
@@ -57,7 +57,7 @@ pub(crate) fn await_turn<T: Replayed, R: Wait>(
 }
 
 // Gives the slot back, and adds to the history.
-pub(crate) fn end<T: Replayed, N: Added<T::Entry>>(board: &Board<T>, seat: &mut Place<T>)
+pub(crate) fn end<T: Replayed, N: Added<T::Entry>>(board: &Board<T>, seat: &mut PassSeat<T>)
     requires place { (seat.old.table_id ≡ board.now.table_id) × (board.now.table_id.words ≡ 2) }
     requires turn { (e : _) × (y : _) × (seat.old.me.0.stage ≡ 2) × (seat.old.me.1 ≡ (0, Some y) ∷ []) × (N.more ≡ e ∷ []) × ((x : _) × (seat.old.me.0.opening ≡ Some x) × T.legal x (seat.old.me.0.seen ++ e ∷ []) × T.outcome x (seat.old.me.0.seen ++ e ∷ []) y) }
     ensures place { (seat.new.table_id ≡ seat.old.table_id) × (seat.new.id ≡ seat.old.id) }
@@ -69,7 +69,7 @@ pub(crate) fn end<T: Replayed, N: Added<T::Entry>>(board: &Board<T>, seat: &mut 
 }
 
 // Takes the value out of the slot.
-pub(crate) fn take<T: Replayed>(board: &Board<T>, seat: &mut Place<T>) -> T
+pub(crate) fn take<T: Replayed>(board: &Board<T>, seat: &mut PassSeat<T>) -> T
     requires place { seat.old.table_id ≡ board.now.table_id }
     requires there { (x : T) × (seat.old.me.1 ≡ (0, Some x) ∷ []) }
     ensures place { (seat.new.table_id ≡ seat.old.table_id) × (seat.new.id ≡ seat.old.id) }
@@ -80,7 +80,7 @@ pub(crate) fn take<T: Replayed>(board: &Board<T>, seat: &mut Place<T>) -> T
 }
 
 // Puts the value into the slot.
-pub(crate) fn put<T: Replayed>(board: &Board<T>, seat: &mut Place<T>, value: T)
+pub(crate) fn put<T: Replayed>(board: &Board<T>, seat: &mut PassSeat<T>, value: T)
     requires place { seat.old.table_id ≡ board.now.table_id }
     requires gone { seat.old.me.1 ≡ (0, None) ∷ [] }
     ensures place { (seat.new.table_id ≡ seat.old.table_id) × (seat.new.id ≡ seat.old.id) }
@@ -93,7 +93,7 @@ pub(crate) fn put<T: Replayed>(board: &Board<T>, seat: &mut Place<T>, value: T)
 // The same as `end`, with the entry of an act.
 pub(crate) fn end_as<T: Replayed, A: Act<T>, N: Added<T::Entry>>(
     board: &Board<T>,
-    seat: &mut Place<T>,
+    seat: &mut PassSeat<T>,
     _before: &Snapshot<A>,
     _reply: &A::Reply,
 )
@@ -111,7 +111,7 @@ pub(crate) fn end_as<T: Replayed, A: Act<T>, N: Added<T::Entry>>(
 pub(crate) fn play_turn<T: Replayed, A: Act<T>, R: Wait>(
     rt: &R,
     board: &Board<T>,
-    seat: &mut Place<T>,
+    seat: &mut PassSeat<T>,
     act: &mut A,
 ) -> (u64, A::Reply)
     requires place { (seat.old.table_id ≡ board.now.table_id) × (board.now.table_id.words ≡ 2) }
@@ -133,7 +133,7 @@ pub(crate) fn play_turn<T: Replayed, A: Act<T>, R: Wait>(
 }
 
 // Looks at the history, and stands still.
-pub(crate) fn look<T: Replayed>(board: &Board<T>, seat: &mut Place<T>)
+pub(crate) fn look<T: Replayed>(board: &Board<T>, seat: &mut PassSeat<T>)
     requires { (seat.old.table_id ≡ board.now.table_id) × (board.now.table_id.words ≡ 2) }
     ensures same { (seat.new.table_id ≡ seat.old.table_id) × (seat.new.id ≡ seat.old.id) × (seat.new.me ≡ seat.old.me) }
     ensures legal { (o : _) → seat.old.me.0.opening ≡ Some o → T.legal o seat.old.me.0.seen }
@@ -147,9 +147,9 @@ pub(crate) fn look<T: Replayed>(board: &Board<T>, seat: &mut Place<T>)
 // Cuts a number of turns off.
 pub(crate) fn cut<T: Replayed, N: Parted>(
     board: &Board<T>,
-    seat: &mut Place<T>,
+    seat: &mut PassSeat<T>,
     _turns: u64,
-) -> Place<T>
+) -> PassSeat<T>
     requires place { (seat.old.table_id ≡ board.now.table_id) × (board.now.table_id.words ≡ 2) }
     requires turns { (N.turns ≡ _turns) × (_turns ≤ seat.old.me.0.left) × (seat.old.me.0.stage ≡ 0) }
     ensures place { (seat.new.table_id ≡ seat.old.table_id) × (result.table_id ≡ seat.old.table_id) }
@@ -160,7 +160,7 @@ pub(crate) fn cut<T: Replayed, N: Parted>(
 }
 
 // Takes another in, and looks.
-pub(crate) fn glue<T: Replayed>(board: &Board<T>, seat: &mut Place<T>, other: Place<T>)
+pub(crate) fn glue<T: Replayed>(board: &Board<T>, seat: &mut PassSeat<T>, other: PassSeat<T>)
     requires place { (seat.old.table_id ≡ board.now.table_id) × (board.now.table_id.words ≡ 2) × (other.table_id ≡ board.now.table_id) }
     requires rest { (seat.old.me.0.stage ≡ 0) × (other.me.0.stage ≡ 0) × (other.me.1 ≡ []) }
     ensures place { seat.new.table_id ≡ seat.old.table_id }
@@ -178,14 +178,14 @@ pub(crate) fn glue<T: Replayed>(board: &Board<T>, seat: &mut Place<T>, other: Pl
 /// The table.
 pub type Desk<T> = Table<
     Option<T>,
-    View<<T as Replayed>::Entry, <T as Replayed>::Opening>,
+    PassState<<T as Replayed>::Entry, <T as Replayed>::Opening>,
     Terms<T>,
     InTurn<T>,
     Global,
 >;
 
 // Takes the value from the table, whose turns the seat has used or has left.
-pub(crate) fn end_all<T: Replayed>(table: Desk<T>, seat: Place<T>) -> T
+pub(crate) fn end_all<T: Replayed>(table: Desk<T>, seat: PassSeat<T>) -> T
     requires place { (seat.table_id ≡ table.shared.table_id) × (table.shared.table_id.slots ≡ 1) }
     requires turns { seat.me.0.left + length seat.me.0.mine ≡ table.shared.key.turns }
     ensures outcome { T.outcome (T.opening table.shared.key.first.value) seat.me.0.seen result }

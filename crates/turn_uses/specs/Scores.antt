@@ -3,7 +3,7 @@ use Rattle.std.specs.Prelude.{◌≡◌, ℕ, ◌+◌, ◌≤◌, max, List, [],
 use Rattle.std.proofs.Common.{refl, arith, subst}
 use Rattle.turn_uses.specs.declared.scores.Score.{Score}
 use Rattle.turn_uses.specs.declared.scores.Score.TheVariants.{Submitted, Compared}
-use Rattle.turn_uses.specs.Standing.{StandsAt}
+use Rattle.turn_book.specs.Standing.{StandsAt}
 
 -- the best of a best score and one entry more
 abbrev pub best_with : ℕ → Score → ℕ

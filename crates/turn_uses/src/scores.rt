@@ -1,6 +1,6 @@
 //! The best score so far, and how far an earlier score is behind it.
 ghost use Rattle.std.specs.Prelude.{◌≡◌, ℕ, ◌+◌, ◌^◌, ◌<◌, List, [], ◌∷◌, ◌++◌, length, refl};
-ghost use Rattle.turn_uses.specs.Standing.{StandsAt, stands_longer};
+ghost use Rattle.turn_book.specs.Standing.{StandsAt, stands_longer};
 ghost use Rattle.turn_uses.specs.Scores.{AreScores, best_after, scores_before};
 
 use turn_book::replayed::{Act, Replayed};

@@ -1,7 +1,7 @@
 //! A counter with three turns, of which two callers take one each.
 ghost use Rattle.std.specs.Prelude.{◌≡◌, ◌+◌, ◌<◌, ◌⊎◌, [], ◌∷◌, IfOk, IsOk};
 ghost use Rattle.turn_book.specs.Passes.{IsOf};
-ghost use Rattle.turn_uses.specs.Standing.{StandsAt};
+ghost use Rattle.turn_book.specs.Standing.{StandsAt};
 
 use crate::counter::{Counter, Next};
 use std::alloc::{AllocError, Global};

@@ -126,21 +126,3 @@ pub fn read_list<F: FieldReader>(
         Err(fault) => Err(fault),
     }
 }
-
-/// Numbers in two bytes.
-pub struct U16;
-
-impl FieldReader for U16 {
-    ghost use Rattle.value_bytes.specs.Fields.{u16 as the_field};
-    ghost use Rattle.value_bytes.specs.Telling.{u16-tells};
-
-    type Value = u16;
-
-    ghost field = { the_field };
-
-    fn read(_alloc: Global, bytes: &[u8]) -> Result<(u16, &[u8]), Unread> {
-        read_u16(bytes)
-    }
-
-    ghost tells = { u16-tells };
-}

@@ -4,6 +4,7 @@ use Rattle.dev_memory.specs.Disk.{deeds, written, at_rest}
 use Rattle.dev_memory.specs.Crash.{one_replay, IsAtRest, Stands, Left}
 use Rattle.dev_memory.specs.declared.call.Call.{Call}
 use Rattle.dev_memory.proofs.Crashes.{written_parts, left_whole}
+use Rattle.dev_memory.proofs.Views.{if_ok}
 use Rattle.dev_memory.proofs.crash.area_left.Goals as goal
 
 pub replay-requires : goal.replay-requires
@@ -36,8 +37,8 @@ returns-clause-left c =
     let copied : c.in_ok-left.left.bytes ≡ c.replay.new.bytes.bytes = c.in_ok-left.ensures ∙ c.as_slice.ensures.bytes in
     let part : take (length c.args.pieces.now - c.in_ok-at.at) (drop c.in_ok-at.at c.args.pieces.now) ≡ drop (written early) c.args.pieces.now =
     take_rest c.args.pieces.now c.in_ok-at.at ∙ ap (λ (n : ℕ). drop n c.args.pieces.now) c.in_ok-at.ensures.size in
-    subst (Left c.args.pick (one_replay a (deeds c.args.pieces.now c.args.calls.now) (at_rest c.args.start.now))) (sym (c.from_vec.ensures ∙ c.into_vec.ensures.bytes))
+    if_ok c.from_vec.result _ _ c.from_vec.ensures.bytes (λ text is. subst (Left c.args.pick (one_replay a (deeds c.args.pieces.now c.args.calls.now) (at_rest c.args.start.now))) (sym (is ∙ c.into_vec.ensures.bytes))
     (left_whole a c.args.pick c.args.start.now c.args.calls.now c.args.pieces.now c.last_rest.result early late c.replay.new.bytes.bytes c.leave_all.new.bytes.bytes c.leave_all.new.left.bytes c.split_at.ensures.front c.split_at.ensures.back rest reads
     (λ none. omega (arith, none))
     (λ d first. subst (λ (l : List ℕ). Stands c.args.pick (one_replay a (deeds l late) d) c.leave_all.new.bytes.bytes c.leave_all.new.left.bytes) part
-    (c.in_ok-leave_all.ensures d (subst (λ (l : List ℕ). Stands c.args.pick d c.replay.new.bytes.bytes l) (sym copied) first))))
+    (c.in_ok-leave_all.ensures d (subst (λ (l : List ℕ). Stands c.args.pick d c.replay.new.bytes.bytes l) (sym copied) first)))))

@@ -1,6 +1,6 @@
 use Rattle.std.proofs.Common.{◌≡◌, ℕ, List, [], Bool, IsTrue, sym, ◌∙◌, subst}
 use Rattle.dev_traits.specs.Image.{Image, area_of}
-use Rattle.dev_traits.proofs.Moments.{calm_then, each_still}
+use Rattle.dev_traits.proofs.Moments.{calm_leaves, calm_then, each_still}
 use Rattle.gated_log.specs.Log.{EndsAt}
 use Rattle.gated_log.proofs.Blocks.{ends_here, is_log_here, none_in_empty}
 use Rattle.gated_log.proofs.Bytes.{ends_is_log}
@@ -55,7 +55,7 @@ returns-clause-settled g c bodies end settled =
       sym here.size ∙ ends.size,
       record {
         honest = subst (λ (b : Bool). IsTrue b) (sym calm.honest) settled.honest;
-        each = each_still (λ (i : Image). EndsAt bodies end (area_of i c.args.area)) _ _ calm.crash settled.each;
+        each = each_still (λ (i : Image). EndsAt bodies end (area_of i c.args.area)) _ _ (calm_leaves _ _ calm) settled.each;
       },
     )
 
@@ -68,7 +68,7 @@ returns-clause-ready g c synced honest =
       found.0.bodies,
       record {
         honest = honest;
-        each = each_still (λ (i : Image). EndsAt found.0.bodies c.in_ok-end.end (area_of i c.args.area)) _ _ calm.crash
+        each = each_still (λ (i : Image). EndsAt found.0.bodies c.in_ok-end.end (area_of i c.args.area)) _ _ (calm_leaves _ _ calm)
             (λ left may. subst (EndsAt found.0.bodies c.in_ok-end.end) (sym (synced read.0 read.1 left may)) ends);
       },
     )

@@ -1,3 +1,4 @@
+use Rattle.pk_model.proofs.ReplyLaws.{legal-append, legal-rest}
 use Rattle.pk_model.proofs.HistoryLaws.{closed-stays, refusals-leave, replay-append, legal-prefix, legal-more}
 use Rattle.pk_model.proofs.laws.histories.Goals as goal
 
@@ -15,3 +16,9 @@ returns-clause-closed c = closed-stays
 
 pub returns-clause-refusals : goal.returns-clause-refusals
 returns-clause-refusals c = refusals-leave
+
+pub returns-clause-appends : goal.returns-clause-appends
+returns-clause-appends c = legal-append
+
+pub returns-clause-rest : goal.returns-clause-rest
+returns-clause-rest c = legal-rest

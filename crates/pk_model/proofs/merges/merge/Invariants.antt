@@ -1,23 +1,21 @@
-use Rattle.std.proofs.Common.{◌≡◌, ◌++◌, ◌+◌, length, T}
+use Rattle.std.proofs.Common.{◌≡◌, ◌++◌, length, T}
 use Rattle.std.specs.FinMap.{entries}
 use Rattle.std.specs.FinMap.Entries.{is_sorted}
 use Rattle.pk_values.specs.Order.{key_cmp}
-use Rattle.pk_values.specs.Schemas.{Layout}
 use Rattle.pk_model.specs.Tables.{Rows, after_lines}
-use Rattle.pk_model.specs.Runs.{written, unread, HasRoom}
-use Rattle.pk_model.specs.Merges.{ArePrepared, rise, await, ops_of}
+use Rattle.pk_model.specs.Runs.{written, unread}
+use Rattle.pk_model.specs.Merges.{rise, await}
 use Rattle.pk_model.proofs.merges.merge.Given as goal
 
-abbrev pub invariant-loop-line : goal.invariant-loop-line
-invariant-loop-line l = record {
-  merged : (s : Layout) (m : Rows) → entries m ≡ written l.fn.table → ArePrepared s l.fn.lines.items
-      → (n : Rows) × (entries n ≡ written l.done ++ unread l.rest) × ArePrepared s l.lines.items
-      × (after_lines s l.given (ops_of l.lines.items) n ≡ after_lines s l.given (ops_of l.fn.lines.items) m);
+abbrev pub invariant-loop-op : goal.invariant-loop-op
+invariant-loop-op l = record {
+  merged : (m : Rows) → entries m ≡ written l.fn.table
+      → (n : Rows) × (entries n ≡ written l.done ++ unread l.rest)
+      × (after_lines l.schema l.given l.lines.items n ≡ after_lines l.schema l.given l.fn.ops.items m);
   in_order : T (is_sorted key_cmp (written l.done ++ unread l.rest));
-  lines_rise : T (rise (ops_of l.lines.items));
-  awaited : T (await (ops_of l.lines.items) (written l.done));
-  room : HasRoom l.done (length (unread l.rest) + length l.lines.items);
+  lines_rise : T (rise l.lines.items);
+  awaited : T (await l.lines.items (written l.done));
 }
 
-abbrev pub decreases-loop-line : goal.decreases-loop-line
-decreases-loop-line l = length l.lines.items
+abbrev pub decreases-loop-op : goal.decreases-loop-op
+decreases-loop-op l = length l.lines.items

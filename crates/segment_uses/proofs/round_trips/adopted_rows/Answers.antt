@@ -1,5 +1,5 @@
 use Rattle.std.proofs.Common.{◌∙◌, ap, option_map}
-use Rattle.dev_traits.proofs.Moments.{leaves_still}
+use Rattle.dev_traits.proofs.Moments.{calm_leaves, leaves_still}
 use Rattle.dev_traits.specs.Image.{with_file, Same}
 use Rattle.segment_form.specs.Segments.{segment_file}
 use Rattle.segment_uses.proofs.Reading.{sealed_is, some_told}
@@ -26,14 +26,17 @@ returns-in-Ok-clause-durable g c image told =
 
 pub returns-in_err-room-clause-crash : goal.returns-in_err-room-clause-crash
 returns-in_err-room-clause-crash g c =
-    leaves_still Same (g.S.Store.view c.args.store.now) (g.S.Store.view c.sealed_rows.new.store) (g.S.Store.view c.room.new.self) c.in_ok-sealed.ensures.calm.crash c.in_err-room.ensures.calm.crash
+    leaves_still Same (g.S.Store.view c.args.store.now) (g.S.Store.view c.sealed_rows.new.store) (g.S.Store.view c.room.new.self) (calm_leaves _ _ c.in_ok-sealed.ensures.calm) (calm_leaves _ _ c.in_err-room.ensures.calm)
 
 pub returns-in-Ok-clause-crash : goal.returns-in-Ok-clause-crash
 returns-in-Ok-clause-crash g c =
     leaves_still Same (g.S.Store.view c.args.store.now) (g.S.Store.view c.room.new.self) (g.S.Store.view c.adopt.new.self)
-    (leaves_still Same (g.S.Store.view c.args.store.now) (g.S.Store.view c.sealed_rows.new.store) (g.S.Store.view c.room.new.self) c.in_ok-sealed.ensures.calm.crash c.in_ok-room.ensures.calm.crash) c.in-Ok.ensures.crash
+    (leaves_still Same (g.S.Store.view c.args.store.now) (g.S.Store.view c.sealed_rows.new.store) (g.S.Store.view c.room.new.self) (calm_leaves _ _ c.in_ok-sealed.ensures.calm) (calm_leaves _ _ c.in_ok-room.ensures.calm)) c.in-Ok.ensures.crash
 
 pub returns-in-Err-clause-crash : goal.returns-in-Err-clause-crash
 returns-in-Err-clause-crash g c =
     leaves_still Same (g.S.Store.view c.args.store.now) (g.S.Store.view c.room.new.self) (g.S.Store.view c.adopt.new.self)
-    (leaves_still Same (g.S.Store.view c.args.store.now) (g.S.Store.view c.sealed_rows.new.store) (g.S.Store.view c.room.new.self) c.in_ok-sealed.ensures.calm.crash c.in_ok-room.ensures.calm.crash) c.in-Err.ensures.crash
+    (leaves_still Same (g.S.Store.view c.args.store.now) (g.S.Store.view c.sealed_rows.new.store) (g.S.Store.view c.room.new.self) (calm_leaves _ _ c.in_ok-sealed.ensures.calm) (calm_leaves _ _ c.in_ok-room.ensures.calm)) c.in-Err.ensures.crash
+
+pub returns-in_err-sealed-clause-crash : goal.returns-in_err-sealed-clause-crash
+returns-in_err-sealed-clause-crash g c = calm_leaves _ _ c.sealed_rows.ensures.calm

@@ -1,23 +1,22 @@
-use Rattle.std.proofs.Common.{◌≡◌, subst, sym, Some}
+use Rattle.std.proofs.Common.{◌≡◌, sym}
 use Rattle.std.proofs.lemmas.Result.{err_from_is_err_and}
-use Rattle.dev_traits.proofs.Moments.{leaves_still}
-use Rattle.dev_traits.specs.Image.{Image, file, Same}
+use Rattle.dev_traits.proofs.Moments.{calm_leaves, leaves_still}
+use Rattle.dev_traits.specs.Image.{Same}
 use Rattle.segment_form.specs.Segments.{segment_file}
 use Rattle.segment_uses.proofs.Steps.{read_failed, read_well}
 use Rattle.segment_uses.proofs.round_trips.write_and_read.Goals as goal
 
 pub returns-clause-durable : goal.returns-clause-durable
 returns-clause-durable g c image told left may =
-    let come = c.give_back_reader.ensures.calm.crash.now left may in
-    subst (λ (i : Image). file i c.args.number ≡ Some (segment_file c.args.schema.now c.args.rows.now)) (sym come.2) (c.in_ok-reader.ensures.durable image told come.0 come.1)
+    c.in_ok-reader.ensures.durable image told left ((c.give_back_reader.ensures.calm.now left).0 may)
 
 pub returns-in_err-found-clause-crash : goal.returns-in_err-found-clause-crash
 returns-in_err-found-clause-crash g c =
-    leaves_still Same (g.S.Store.view c.args.store.now) (g.S.Store.view c.adopted_rows.new.store) (g.S.Store.view c.give_back_reader.new.self) c.in_ok-reader.ensures.crash c.give_back_reader.ensures.calm.crash
+    leaves_still Same (g.S.Store.view c.args.store.now) (g.S.Store.view c.adopted_rows.new.store) (g.S.Store.view c.give_back_reader.new.self) c.in_ok-reader.ensures.crash (calm_leaves _ _ c.give_back_reader.ensures.calm)
 
 pub returns-clause-crash : goal.returns-clause-crash
 returns-clause-crash g c =
-    leaves_still Same (g.S.Store.view c.args.store.now) (g.S.Store.view c.adopted_rows.new.store) (g.S.Store.view c.give_back_reader.new.self) c.in_ok-reader.ensures.crash c.give_back_reader.ensures.calm.crash
+    leaves_still Same (g.S.Store.view c.args.store.now) (g.S.Store.view c.adopted_rows.new.store) (g.S.Store.view c.give_back_reader.new.self) c.in_ok-reader.ensures.crash (calm_leaves _ _ c.give_back_reader.ensures.calm)
 
 pub returns-in_err-found-clause-cause : goal.returns-in_err-found-clause-cause
 returns-in_err-found-clause-cause g c =

@@ -1,6 +1,8 @@
 use Rattle.std.proofs.Common.{◌≡◌, ◌+◌, [], ◌∷◌, ◌++◌, length, refl, ◌∙◌, ap, arith}
 use Rattle.std.specs.List.{list_all}
-use Rattle.dev_memory.specs.Kept.{KeptView, held, grown, with_files}
+use Rattle.std.proofs.lemmas.Bool.{and_from, le-leb}
+use Rattle.std.proofs.lemmas.List.Folds.{list_all-append}
+use Rattle.dev_memory.specs.Kept.{KeptView, has_short_bytes, held, grown, with_files}
 use Rattle.dev_memory.specs.Disk.{deeds, ChangedFiles, settled_by, never}
 use Rattle.dev_memory.specs.declared.call.File.{File}
 use Rattle.dev_memory.proofs.Calls.{length-deeds}
@@ -14,7 +16,9 @@ invariant_of-self c =
     let count : c.len.result ≡ length (deeds c.self.inside.pieces.items c.self.inside.calls.items) = omega (arith, c.len.ensures, c.self.inside.calls.ok, length-deeds c.self.inside.calls.items c.self.inside.pieces.items) in
     let settled = ap (list_all (settled_by (length (deeds c.self.inside.pieces.items c.self.inside.calls.items) + 1))) c.push_reserved-2.ensures.items
     ∙ settled-push (length (deeds c.self.inside.pieces.items c.self.inside.calls.items)) _ c.self.inside.files.items f refl c.self.invariant.valid.settled (omega (arith, count)) refl in
-    keep_files _ _ _ _ _ _ _ _ _ _ c.self.invariant _ _ _ _ _ c.push_reserved.ensures.items settled
+    let short = ap (list_all has_short_bytes) c.push_reserved-2.ensures.items
+    ∙ list_all-append has_short_bytes c.self.inside.files.items (f ∷ []) ∙ and_from _ _ c.self.invariant.valid.short_files (and_from _ _ (le-leb _ _ c.requires.short) refl) in
+    keep_files _ _ _ _ _ _ _ _ _ _ c.self.invariant _ _ _ _ _ c.push_reserved.ensures.items settled short
     (omega (arith, c.self.invariant.for_calls, c.push_reserved.ensures.len, c.push_reserved.ensures.capacity))
     (omega (arith, c.self.invariant.for_files, c.push_reserved-2.ensures.len, c.push_reserved-2.ensures.capacity))
 

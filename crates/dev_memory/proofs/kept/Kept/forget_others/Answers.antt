@@ -1,9 +1,9 @@
 use Rattle.std.proofs.Common.{◌≡◌, ℕ, ◌+◌, length, map, sym, ◌∙◌, ap, arith}
 use Rattle.std.specs.List.{list_all}
-use Rattle.dev_memory.specs.Kept.{KeptView, held, grown, with_files}
+use Rattle.dev_memory.specs.Kept.{KeptView, has_short_bytes, held, grown, with_files}
 use Rattle.dev_memory.specs.Disk.{deeds, ChangedFiles, settled_by, closed}
 use Rattle.dev_memory.proofs.Calls.{length-deeds}
-use Rattle.dev_memory.proofs.Files.{settled-closed, whole-new}
+use Rattle.dev_memory.proofs.Files.{settled-closed, short-closed, whole-new}
 use Rattle.dev_memory.proofs.Growing.{keep_files, files_after}
 use Rattle.dev_memory.proofs.kept.Kept.forget_others.Goals as goal
 
@@ -14,7 +14,8 @@ invariant_of-self c =
     let settled = ap (list_all (settled_by (length (deeds c.self.inside.pieces.items c.self.inside.calls.items) + 1))) files
     ∙ ap (λ (n : ℕ). list_all (settled_by (n + 1)) (map (closed c.args.keep.now (c.len.result + 1)) c.self.inside.files.items)) (sym count)
     ∙ settled-closed c.args.keep.now (length (deeds c.self.inside.pieces.items c.self.inside.calls.items)) (c.len.result + 1) c.self.inside.files.items (omega (arith, count)) c.self.invariant.valid.settled in
-    keep_files _ _ _ _ _ _ _ _ _ _ c.self.invariant _ _ _ _ _ c.push_reserved.ensures.items settled
+    let short = ap (list_all has_short_bytes) files ∙ short-closed c.args.keep.now (c.len.result + 1) c.self.inside.files.items c.self.invariant.valid.short_files in
+    keep_files _ _ _ _ _ _ _ _ _ _ c.self.invariant _ _ _ _ _ c.push_reserved.ensures.items settled short
     (omega (arith, c.self.invariant.for_calls, c.push_reserved.ensures.len, c.push_reserved.ensures.capacity))
     (omega (arith, c.self.invariant.for_files))
 

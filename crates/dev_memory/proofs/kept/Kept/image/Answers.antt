@@ -23,7 +23,7 @@ pub returns-clause-left : goal.returns-clause-left
 returns-clause-left c =
     image_left c.args.self.now.held (are_three c) c.args.pick c.in_ok-areas.areas.items c.in_ok-first.first c.in_ok-second.second c.in_ok-third.third c.in_ok-files.files.items c.in_ok-files.ensures.kept.0
     c.in_ok-areas.ensures c.in_ok-first.ensures.left c.in_ok-second.ensures.left c.in_ok-third.ensures.left
-    (c.in_ok-files.ensures.kept.1 ∙ ap (λ (l : List (ℕ × List ℕ)). l ++ c.in_ok-files.ensures.kept.0) (entries_now c))
+    c.in_ok-files.ensures.short (c.in_ok-files.ensures.kept.1 ∙ ap (λ (l : List (ℕ × List ℕ)). l ++ c.in_ok-files.ensures.kept.0) (entries_now c))
 
 pub returns-clause-read : goal.returns-clause-read
 returns-clause-read c none =

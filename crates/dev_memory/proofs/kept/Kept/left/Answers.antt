@@ -9,13 +9,13 @@ use Rattle.dev_memory.proofs.Views.{if_ok}
 use Rattle.dev_memory.proofs.kept.Kept.left.Goals as goal
 
 pub returns-then-pick-eq0-clause-left : goal.returns-then-pick-eq0-clause-left
-returns-then-pick-eq0-clause-left c = if_ok c.from_slice.result _ _ c.from_slice.ensures (λ left is. left_read c.args.self.now.held c.args.pick c.args.area left c.if-pick-eq0.true (is ∙ c.area.ensures.bytes))
+returns-then-pick-eq0-clause-left c = if_ok c.from_slice.result _ _ c.from_slice.ensures.bytes (λ left is. left_read c.args.self.now.held c.args.pick c.args.area left c.if-pick-eq0.true (is ∙ c.area.ensures.bytes))
 
 pub returns-then-pick-eq0-clause-short : goal.returns-then-pick-eq0-clause-short
-returns-then-pick-eq0-clause-short c = if_ok c.from_slice.result _ _ c.from_slice.ensures (λ left is. omega (arith, ap length is, c.area.ensures.short))
+returns-then-pick-eq0-clause-short c = if_ok c.from_slice.result _ _ c.from_slice.ensures.bytes (λ left is. omega (arith, ap length is, c.area.ensures.short))
 
 pub area_left-requires-clause-short : goal.area_left-requires-clause-short
-area_left-requires-clause-short c = omega (arith, short-at c.self.inside.start.items c.args.area c.index.result.now c.self.invariant.short (omega (arith, c.self.invariant.valid.three, c.requires)) c.index.ensures, ap length c.as_slice-start.ensures)
+area_left-requires-clause-short c = omega (arith, short-at c.self.inside.start.items c.args.area c.index.result.now c.self.invariant.valid.short (omega (arith, c.self.invariant.valid.three, c.requires)) c.index.ensures, ap length c.as_slice-start.ensures)
 
 pub returns-clause-left : goal.returns-clause-left
 returns-clause-left c =

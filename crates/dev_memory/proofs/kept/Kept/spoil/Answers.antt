@@ -1,5 +1,5 @@
 use Rattle.std.proofs.Common.{◌≡◌, ◌++◌, List, length, take, drop, refl, sym, ◌∙◌, ap, subst, arith}
-use Rattle.dev_memory.specs.Kept.{KeptView, held}
+use Rattle.dev_memory.specs.Kept.{KeptView, has_short_bytes, held}
 use Rattle.std.specs.List.{list_all}
 use Rattle.std.specs.Ordering.{nat_cmp}
 use Rattle.std.specs.FinMap.{get}
@@ -29,9 +29,10 @@ invariant_of-self c =
     record {
       valid = record {
         three = c.self.invariant.valid.three;
+        short = c.self.invariant.valid.short;
+        short_files = ap (list_all has_short_bytes) (whole c) ∙ (before c).short (ap (list_all has_short_bytes) c.deref_mut.ensures.value ∙ c.self.invariant.valid.short_files);
         settled = ap (list_all (settled_by n)) (whole c) ∙ (before c).settled (ap (list_all (settled_by n)) c.deref_mut.ensures.value ∙ c.self.invariant.valid.settled);
       };
-      short = c.self.invariant.short;
       reads = c.self.invariant.reads;
       fits = c.self.invariant.fits;
       rooms = c.self.invariant.rooms;

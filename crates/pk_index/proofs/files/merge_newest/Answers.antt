@@ -1,0 +1,61 @@
+use Rattle.std.proofs.Common.{◌∙◌, ◌<◌, arith, length, refl}
+use Rattle.std.proofs.lemmas.List.{drop-set-lt}
+use Rattle.std.specs.FinMap.{from_sorted}
+use Rattle.index_levels.specs.Levels.{over}
+use Rattle.pk_index.proofs.CauseFacts.{calm_fault, fails_once, none_have, told_same}
+use Rattle.pk_index.proofs.IndexFacts.{still_have}
+use Rattle.pk_index.proofs.MergedFacts.{merged_alone, merges_on, risen}
+use Rattle.pk_index.proofs.files.merge_newest.Goals as goal
+
+pub loop-i-init : goal.loop-i-init
+loop-i-init g c =
+    record {
+      same = λ ls have. have;
+      so_far = λ ls have. c.in_ok-all.ensures ∙ merged_alone c.args.level0.now.level;
+      older = refl;
+      named = refl;
+      calm = refl;
+      rise = risen c.in_ok-all.all.items c.args.level0.now.level c.in_ok-all.ensures;
+    }
+
+pub returns-in-Err-clause-same : goal.returns-in-Err-clause-same
+returns-in-Err-clause-same g c ls have =
+    still_have g.F.FileLevel.has_level c.loop-i.files c.loop-i.i c.index-files-i.result c.entries-in-loop-i.new.self c.entries-in-loop-i.ensures.same ls (c.loop-i.invariant.same ls have)
+
+pub returns-in-Err-merge-clause-same : goal.returns-in-Err-merge-clause-same
+returns-in-Err-merge-clause-same g c ls have =
+    still_have g.F.FileLevel.has_level c.loop-i.files c.loop-i.i c.index-files-i.result c.entries-in-loop-i.new.self c.entries-in-loop-i.ensures.same ls (c.loop-i.invariant.same ls have)
+
+pub loop-i-preserved : goal.loop-i-preserved
+loop-i-preserved g c =
+    let less : c.loop-i.i < length c.loop-i.files = omega arith in
+    record {
+      same = λ ls have. still_have g.F.FileLevel.has_level c.loop-i.files c.loop-i.i c.index-files-i.result c.entries-in-loop-i.new.self c.entries-in-loop-i.ensures.same ls (c.loop-i.invariant.same ls have);
+      so_far = λ ls have.
+          merges_on g.F.FileLevel.has_level c.args.level0.now.level c.loop-i.files ls c.loop-i.i c.index-files-i.result
+          c.deref.result.now c.deref-in-loop-i.result.now c.in-Ok-merge.both.items less (c.loop-i.invariant.same ls have)
+          (c.deref.ensures.value ∙ c.loop-i.invariant.so_far ls have) (λ level is. c.deref-in-loop-i.ensures.value ∙ c.in-Ok.ensures.entries level is) c.in-Ok-merge.ensures;
+      older = drop-set-lt c.args.count c.loop-i.files c.loop-i.i c.entries-in-loop-i.new.self (omega arith) ∙ c.loop-i.invariant.older;
+      named = told_same g.F.FileLevel.named c.args.files.now c.loop-i.files c.loop-i.i c.index-files-i.result c.entries-in-loop-i.new.self c.entries-in-loop-i.ensures.named c.loop-i.invariant.named;
+      calm = told_same g.F.FileLevel.faults c.args.files.now c.loop-i.files c.loop-i.i c.index-files-i.result c.entries-in-loop-i.new.self (c.in-Ok.ensures.cause.well (λ e. cc)) c.loop-i.invariant.calm;
+      rise = risen c.in-Ok-merge.both.items (over c.deref.result.now (from_sorted c.deref-in-loop-i.result.now)) c.in-Ok-merge.ensures;
+    }
+
+pub returns-in-Err-clause-named : goal.returns-in-Err-clause-named
+returns-in-Err-clause-named g c = told_same g.F.FileLevel.named c.args.files.now c.loop-i.files c.loop-i.i c.index-files-i.result c.entries-in-loop-i.new.self c.entries-in-loop-i.ensures.named c.loop-i.invariant.named
+
+pub returns-in-Err-clause-cause : goal.returns-in-Err-clause-cause
+returns-in-Err-clause-cause g c =
+    let less : c.loop-i.i < length c.loop-i.files = omega arith in
+    fails_once g.F.FileLevel.faults c.args.files.now c.loop-i.files c.loop-i.i c.index-files-i.result c.entries-in-loop-i.new.self c.in-Err.fault less c.in-Err.ensures.cause c.loop-i.invariant.calm
+
+pub returns-in-Err-clause-intact : goal.returns-in-Err-clause-intact
+returns-in-Err-clause-intact g c damaged ls have =
+    let less : c.loop-i.i < length c.loop-i.files = omega arith in
+    none_have g.F.FileLevel.has_level c.loop-i.files c.loop-i.i c.index-files-i.result c.in-Err.fault ls less c.in-Err.ensures.intact damaged (c.loop-i.invariant.same ls have)
+
+pub returns-in-Err-merge-clause-named : goal.returns-in-Err-merge-clause-named
+returns-in-Err-merge-clause-named g c = told_same g.F.FileLevel.named c.args.files.now c.loop-i.files c.loop-i.i c.index-files-i.result c.entries-in-loop-i.new.self c.entries-in-loop-i.ensures.named c.loop-i.invariant.named
+
+pub returns-in-Err-merge-clause-cause : goal.returns-in-Err-merge-clause-cause
+returns-in-Err-merge-clause-cause g c = calm_fault g.F.FileLevel.faults c.args.files.now c.loop-i.files c.loop-i.i c.index-files-i.result c.entries-in-loop-i.new.self (c.in-Ok.ensures.cause.well (λ e. cc)) c.loop-i.invariant.calm

@@ -1,0 +1,69 @@
+use Rattle.std.proofs.Common.{sym, ◌∙◌, ◌<◌, arith, length}
+use Rattle.pk_index.proofs.CauseFacts.{fails_once, none_fails, none_have, told_same}
+use Rattle.pk_index.proofs.IndexFacts.{found_there, missed_there, none_left, still_have}
+use Rattle.pk_index.proofs.ReadFacts.{counted_all, counted_on, counted_once, uncounted_on}
+use Rattle.pk_index.proofs.files.probe_all.Goals as goal
+
+pub returns-in-Err-clause-same : goal.returns-in-Err-clause-same
+returns-in-Err-clause-same g c ls have =
+    still_have g.F.FileLevel.has_level c.loop-i.files c.loop-i.i c.index-files-i.result c.probe.new.self c.probe.ensures.same ls (c.loop-i.invariant.same ls have)
+
+pub returns-then-is_some-clause-entry : goal.returns-then-is_some-clause-entry
+returns-then-is_some-clause-entry g c ls have =
+    let less : c.loop-i.i < length c.loop-i.files = omega arith in
+    found_there g.F.FileLevel.has_level c.loop-i.files c.loop-i.i c.index-files-i.result c.args.key.now c.in-Ok.found less ls
+    (c.loop-i.invariant.same ls have) (c.loop-i.invariant.none ls have) c.in-Ok.ensures.entry (sym c.if-is_some.ensures)
+
+pub returns-then-is_some-clause-same : goal.returns-then-is_some-clause-same
+returns-then-is_some-clause-same g c ls have =
+    still_have g.F.FileLevel.has_level c.loop-i.files c.loop-i.i c.index-files-i.result c.probe.new.self c.probe.ensures.same ls (c.loop-i.invariant.same ls have)
+
+pub loop-i-preserved : goal.loop-i-preserved
+loop-i-preserved g c =
+    let less : c.loop-i.i < length c.loop-i.files = omega arith in
+    record {
+      same = λ ls have. still_have g.F.FileLevel.has_level c.loop-i.files c.loop-i.i c.index-files-i.result c.probe.new.self c.probe.ensures.same ls (c.loop-i.invariant.same ls have);
+      counted = counted_on g.F.FileLevel.reads c.args.files.now c.loop-i.files c.loop-i.i c.index-files-i.result c.probe.new.self less c.probe.ensures.reads c.loop-i.invariant.counted c.loop-i.invariant.uncounted;
+      uncounted = uncounted_on g.F.FileLevel.reads c.args.files.now c.loop-i.files c.loop-i.i c.index-files-i.result c.probe.new.self less c.probe.ensures.reads c.loop-i.invariant.counted c.loop-i.invariant.uncounted;
+      named = told_same g.F.FileLevel.named c.args.files.now c.loop-i.files c.loop-i.i c.index-files-i.result c.probe.new.self c.probe.ensures.named c.loop-i.invariant.named;
+      calm = told_same g.F.FileLevel.faults c.args.files.now c.loop-i.files c.loop-i.i c.index-files-i.result c.probe.new.self (c.in-Ok.ensures.cause.well (λ e. cc)) c.loop-i.invariant.calm;
+      none = λ ls have.
+          missed_there g.F.FileLevel.has_level c.loop-i.files c.loop-i.i c.index-files-i.result c.args.key.now c.in-Ok.found less ls
+          (c.loop-i.invariant.same ls have) (c.loop-i.invariant.none ls have) c.in-Ok.ensures.entry (sym c.if-is_some.ensures);
+    }
+
+pub returns-clause-entry : goal.returns-clause-entry
+returns-clause-entry g c ls have =
+    sym (none_left g.F.FileLevel.has_level c.args.files.now ls c.loop-i.i c.args.key.now have c.loop-i-test.false) ∙ c.loop-i.invariant.none ls have
+
+pub returns-in-Err-clause-reads : goal.returns-in-Err-clause-reads
+returns-in-Err-clause-reads g c =
+    let less : c.loop-i.i < length c.loop-i.files = omega arith in
+    counted_once g.F.FileLevel.reads c.args.files.now c.loop-i.files c.loop-i.i c.index-files-i.result c.probe.new.self less c.probe.ensures.reads c.loop-i.invariant.counted c.loop-i.invariant.uncounted
+
+pub returns-then-is_some-clause-reads : goal.returns-then-is_some-clause-reads
+returns-then-is_some-clause-reads g c =
+    let less : c.loop-i.i < length c.loop-i.files = omega arith in
+    counted_once g.F.FileLevel.reads c.args.files.now c.loop-i.files c.loop-i.i c.index-files-i.result c.probe.new.self less c.probe.ensures.reads c.loop-i.invariant.counted c.loop-i.invariant.uncounted
+
+pub returns-clause-reads : goal.returns-clause-reads
+returns-clause-reads g c = counted_all g.F.FileLevel.reads c.args.files.now c.loop-i.files c.loop-i.i c.loop-i.invariant.counted c.loop-i.invariant.uncounted
+
+pub returns-in-Err-clause-named : goal.returns-in-Err-clause-named
+returns-in-Err-clause-named g c = told_same g.F.FileLevel.named c.args.files.now c.loop-i.files c.loop-i.i c.index-files-i.result c.probe.new.self c.probe.ensures.named c.loop-i.invariant.named
+
+pub returns-in-Err-clause-cause : goal.returns-in-Err-clause-cause
+returns-in-Err-clause-cause g c =
+    let less : c.loop-i.i < length c.loop-i.files = omega arith in
+    fails_once g.F.FileLevel.faults c.args.files.now c.loop-i.files c.loop-i.i c.index-files-i.result c.probe.new.self c.in-Err.fault less c.in-Err.ensures.cause c.loop-i.invariant.calm
+
+pub returns-in-Err-clause-intact : goal.returns-in-Err-clause-intact
+returns-in-Err-clause-intact g c damaged ls have =
+    let less : c.loop-i.i < length c.loop-i.files = omega arith in
+    none_have g.F.FileLevel.has_level c.loop-i.files c.loop-i.i c.index-files-i.result c.in-Err.fault ls less c.in-Err.ensures.intact damaged (c.loop-i.invariant.same ls have)
+
+pub returns-then-is_some-clause-named : goal.returns-then-is_some-clause-named
+returns-then-is_some-clause-named g c = told_same g.F.FileLevel.named c.args.files.now c.loop-i.files c.loop-i.i c.index-files-i.result c.probe.new.self c.probe.ensures.named c.loop-i.invariant.named
+
+pub returns-then-is_some-clause-cause : goal.returns-then-is_some-clause-cause
+returns-then-is_some-clause-cause g c = none_fails g.F.FileLevel.faults c.args.files.now c.loop-i.files c.loop-i.i c.index-files-i.result c.probe.new.self c.in-Ok.found (c.in-Ok.ensures.cause.well (λ e. cc)) c.loop-i.invariant.calm

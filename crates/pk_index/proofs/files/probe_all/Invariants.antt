@@ -1,0 +1,16 @@
+use Rattle.std.proofs.Common.{◌≡◌, List, drop, map, take}
+use Rattle.index_level0.specs.Levels.{Level}
+use Rattle.index_levels.specs.Levels.{entry_at}
+use Rattle.pk_index.specs.Shown.{AtMostOneMore, HaveLevels}
+use Rattle.pk_index.proofs.files.probe_all.Given as goal
+
+abbrev pub invariant-loop-i : goal.invariant-loop-i
+invariant-loop-i g l =
+    record {
+      same : (ls : List Level) → HaveLevels g.F.FileLevel.has_level l.fn.files ls → HaveLevels g.F.FileLevel.has_level l.files ls;
+      counted : AtMostOneMore (take l.i (map g.F.FileLevel.reads l.fn.files)) (take l.i (map g.F.FileLevel.reads l.files));
+      uncounted : drop l.i (map g.F.FileLevel.reads l.files) ≡ drop l.i (map g.F.FileLevel.reads l.fn.files);
+      named : map g.F.FileLevel.named l.files ≡ map g.F.FileLevel.named l.fn.files;
+      calm : map g.F.FileLevel.faults l.files ≡ map g.F.FileLevel.faults l.fn.files;
+      none : (ls : List Level) → HaveLevels g.F.FileLevel.has_level l.fn.files ls → entry_at (drop l.i ls) l.key ≡ entry_at ls l.key;
+    }

@@ -1,0 +1,54 @@
+-- What contracts see of an index.
+use Rattle.std.specs.Prelude.{◌≡◌, ◌⊎◌, ℕ, ◌+◌, ◌≤◌, List, [], ◌∷◌, refl, Result, IsErrOf}
+use Rattle.std.specs.Coded.{Coded, code_by, coded×, coded_list}
+use Rattle.dev_traits.specs.Causes.{Counts}
+use Rattle.dev_traits.specs.declared.faults.ReadFault.{ReadFault}
+use Rattle.dev_traits.specs.declared.faults.ReadFault.TheVariants as read
+use Rattle.index_level0.specs.Levels.{Level, LevelWithRoom, coded_level_with_room}
+use Rattle.index_levels.specs.Levels.{Index}
+
+-- level 0 with its room, the files, of which the newest is the first, and those that are set aside
+pub record Shown (F : Type 0) : Type 0 where
+  pub level0 : LevelWithRoom
+  pub files : List F
+  pub aside : List F
+
+abbrev pub coded_shown : {F : Type 0} → Coded F → Coded (Shown F)
+coded_shown {F} f =
+    code_by (LevelWithRoom × (List F × List F)) (coded× coded_level_with_room (coded× (coded_list f) (coded_list f)))
+    (λ s. (s.level0, (s.files, s.aside))) (λ p. record { level0 = p.0; files = p.1.0; aside = p.1.1 }) (λ _. refl)
+
+-- each file has the level in its place
+abbrev pub HaveLevels : {F : Type 0} → (F → Level → Type 0) → List F → List Level → Type 0
+HaveLevels has [] [] = Unit {0}
+HaveLevels has [] (l ∷ ls) = ⊥
+HaveLevels has (f ∷ fs) [] = ⊥
+HaveLevels has (f ∷ fs) (l ∷ ls) = has f l × HaveLevels has fs ls
+
+-- each number is at most one more than it was
+abbrev pub AtMostOneMore : List ℕ → List ℕ → Type 0
+AtMostOneMore [] [] = Unit {0}
+AtMostOneMore [] (y ∷ ys) = ⊥
+AtMostOneMore (x ∷ xs) [] = ⊥
+AtMostOneMore (x ∷ xs) (y ∷ ys) = (y ≤ x + 1) × AtMostOneMore xs ys
+
+-- level 0 over these levels
+abbrev pub index_of : LevelWithRoom → List Level → Index
+index_of level0 files = record { level0 = level0.level; files = files }
+
+-- one of the counts rose by one, and no other changed
+abbrev pub OneCounts : List ℕ → List ℕ → Type 0
+OneCounts [] ys = ⊥
+OneCounts (x ∷ xs) [] = ⊥
+OneCounts (x ∷ xs) (y ∷ ys) = (Counts 1 x y × (ys ≡ xs)) ⊎ ((y ≡ x) × OneCounts xs ys)
+
+-- The device's fault was counted once by one file. Whatever else is answered counts none.
+pub record HaveCause {A : Type 0} (before now : List ℕ) (result : Result A ReadFault) : Type 0 where
+  pub well : ¬ IsErrOf result read.StoreFault → now ≡ before
+  pub failed : IsErrOf result read.StoreFault → OneCounts before now
+
+-- damage was told
+abbrev pub IsDamaged : ReadFault → Type 0
+IsDamaged (read.Damaged damaged) = Unit {0}
+IsDamaged read.StoreFault = ⊥
+IsDamaged read.Memory = ⊥

@@ -1,0 +1,239 @@
+ghost use Rattle.std.specs.Prelude.{◌≡◌, ◌+◌, ◌-◌, ◌<◌, ◌≤◌, ◌^◌, ◌↔◌, ◌++◌, List, [], length, map, take, drop, reverse, sum, max, min, nat_lt, if◌then◌else◌, IfOk, IfErr, IfNone, IsTrue, OnErr, OnOk};
+ghost use Rattle.std.specs.Option.{option_to_list};
+ghost use Rattle.std.specs.FinMap.{empty, entries, len};
+ghost use Rattle.index_level0.specs.Levels.{Level};
+ghost use Rattle.index_levels.specs.Levels.{flushed, levels, merged, newer_than, place_at, put_all, replaced};
+ghost use Rattle.pk_index.specs.Flushing.{written};
+ghost use Rattle.pk_index.specs.Shown.{AtMostOneMore, HaveCause, HaveLevels, IsDamaged, index_of};
+
+use crate::entries::{Pair, places, put_changes};
+use crate::files::{
+    FileLevel, faults_of, merge_newest, names_of, probe_all, put_first, put_last, set_aside,
+    set_oldest_aside,
+};
+use dev_traits::{Memory, ReadFault};
+use index_level0::{Level0, Place};
+use std::alloc::Global;
+use std::marker::Model;
+
+/// The index of a table's keys: level 0 over at most 8 files.
+#[derive(Drop)]
+pub struct PkIndex<F: FileLevel> {
+    level0: Level0,
+    // The newest is the first.
+    files: Vec<F>,
+    // Files that were replaced.
+    aside: Vec<F>,
+}
+
+impl<F: FileLevel> Model for PkIndex<F> {
+    ghost use Rattle.std.specs.Prelude.{◌≤◌, length};
+    ghost use Rattle.std.specs.Vec.{vec_capacity};
+    ghost use Rattle.pk_index.specs.Shown.{Shown, coded_shown};
+
+    ghost Value = { Shown F };
+
+    ghost coded = { coded_shown F.code };
+
+    ghost view = { λ p. record { level0 = p.level0; files = p.files.items; aside = p.aside.items } };
+
+    ghost invariant = { λ p. (length p.files.items ≤ 8) × (9 ≤ vec_capacity p.files) × (9 ≤ vec_capacity p.aside) };
+}
+
+impl<F: FileLevel> PkIndex<F> {
+    /// An index over files, of which the newest is the first. Where memory is wanted, the files come back.
+    pub fn of(alloc: Global, mut files: Vec<F>) -> Result<PkIndex<F>, Vec<F>>
+        requires { length files.items ≤ 8 }
+        ensures level0 { IfOk result (λ made. made.level0 ≡ record { level = empty; spare = 0 }) }
+        ensures files { IfOk result (λ made. made.files ≡ files.items) }
+        ensures aside { IfOk result (λ made. made.aside ≡ []) }
+        ensures back { IfErr result (λ back. back.items ≡ files.items) }
+    {
+        if files.reserve(9).is_err() {
+            return Err(files);
+        }
+        match Vec::with_capacity(alloc, 9) {
+            Ok(aside) => Ok(PkIndex {
+                level0: Level0::new(alloc),
+                files,
+                aside,
+            }),
+            Err(_) => Err(files),
+        }
+    }
+
+    /// Whether level 0 may have so many entries more.
+    pub fn has_room(&self, n: u32) -> bool
+        ensures { IsTrue result ↔ (len self.now.level0.level + n ≤ 524288) }
+    {
+        n <= Level0::MOST_ENTRIES - self.level0.len()
+    }
+
+    /// The number of files, by which a caller marks those that are there now.
+    pub fn mark(&self) -> u32
+        ensures count { result ≡ length self.now.files }
+        ensures few { result ≤ 8 }
+    {
+        self.files.len() as u32
+    }
+
+    /// Makes room for so many new keys. Where memory is wanted, the index and its room are as before.
+    pub fn reserve(&mut self, n: u32) -> Result<(), Memory>
+        requires { len self.old.level0.level + n ≤ 524288 }
+        ensures level { self.new.level0.level ≡ self.old.level0.level }
+        ensures spare { OnOk result (self.new.level0.spare ≡ max self.old.level0.spare n) }
+        ensures err { OnErr result (self.new ≡ self.old) }
+        ensures files { self.new.files ≡ self.old.files }
+        ensures aside { self.new.aside ≡ self.old.aside }
+    {
+        self.level0.reserve(n)?;
+        Ok(())
+    }
+
+    /// Gives keys places, or None for tombstones. It takes no memory.
+    pub fn put_all(&mut self, changes: Vec<Pair>)
+        requires { length changes.items ≤ self.old.level0.spare }
+        ensures level { self.new.level0.level ≡ put_all changes.items self.old.level0.level }
+        ensures spare { self.new.level0.spare ≡ self.old.level0.spare - length changes.items }
+        ensures files { self.new.files ≡ self.old.files }
+        ensures aside { self.new.aside ≡ self.old.aside }
+    {
+        put_changes(&mut self.level0, &changes);
+    }
+
+    /// Where the index has a key. Each file is probed at most once.
+    pub fn get(&mut self, alloc: Global, key: &[u8]) -> Result<Option<Place>, ReadFault>
+        ensures reads { AtMostOneMore (map F.reads self.old.files) (map F.reads self.new.files) }
+        ensures place { IfOk result (λ place. (files : List Level) → HaveLevels F.has_level self.old.files files → place ≡ place_at (levels (index_of self.old.level0 files)) key.now) }
+        ensures level0 { self.new.level0 ≡ self.old.level0 }
+        ensures same { (files : List Level) → HaveLevels F.has_level self.old.files files → HaveLevels F.has_level self.new.files files }
+        ensures number { length self.new.files ≡ length self.old.files }
+        ensures named { map F.named self.new.files ≡ map F.named self.old.files }
+        ensures cause { HaveCause (map F.faults self.old.files) (map F.faults self.new.files) result }
+        ensures intact { IfErr result (λ e. IsDamaged e → (files : List Level) → HaveLevels F.has_level self.old.files files → ⊥) }
+        ensures aside { self.new.aside ≡ self.old.aside }
+    {
+        if let Some(entry) = self.level0.get(key) {
+            return Ok(entry);
+        }
+        match probe_all(alloc, &mut self.files, key)? {
+            Some(entry) => Ok(entry),
+            None => Ok(None),
+        }
+    }
+
+    /// What a flush writes into one file, and how many of the oldest files it keeps.
+    pub fn flush(
+        &mut self,
+        alloc: Global,
+        keep: u32,
+        most: u32,
+    ) -> Result<(Vec<Pair>, u32), ReadFault>
+        requires within { keep ≤ length self.old.files }
+        requires few { keep < most }
+        ensures entries { IfOk result (λ told. (files : List Level) → HaveLevels F.has_level self.old.files files → told.0.items ≡ entries (written keep most (index_of self.old.level0 files))) }
+        ensures keep { IfOk result (λ told. told.1 ≡ (if nat_lt (length self.old.files) most then length self.old.files else keep)) }
+        ensures level0 { self.new.level0 ≡ self.old.level0 }
+        ensures same { (files : List Level) → HaveLevels F.has_level self.old.files files → HaveLevels F.has_level self.new.files files }
+        ensures number { length self.new.files ≡ length self.old.files }
+        ensures kept { drop (length self.old.files - keep) self.new.files ≡ drop (length self.old.files - keep) self.old.files }
+        ensures named { map F.named self.new.files ≡ map F.named self.old.files }
+        ensures cause { HaveCause (map F.faults self.old.files) (map F.faults self.new.files) result }
+        ensures intact { IfErr result (λ e. IsDamaged e → (files : List Level) → HaveLevels F.has_level self.old.files files → ⊥) }
+        ensures aside { self.new.aside ≡ self.old.aside }
+    {
+        let count = self.mark();
+        let kept = if count < most { count } else { keep };
+        let above = (count - kept) as usize;
+        let all = merge_newest(alloc, &self.level0, &mut self.files, above)?;
+        if count >= most && keep == 0 {
+            return Ok((places(all), kept));
+        }
+        Ok((all, kept))
+    }
+
+    /// The newest entry of each key that stands above the oldest `mark` files, in the order of the keys.
+    pub fn newer_than(&mut self, alloc: Global, mark: u32) -> Result<Vec<Pair>, ReadFault>
+        requires { mark ≤ length self.old.files }
+        ensures entries { IfOk result (λ all. (files : List Level) → HaveLevels F.has_level self.old.files files → all.items ≡ entries (merged (newer_than mark (index_of self.old.level0 files)))) }
+        ensures level0 { self.new.level0 ≡ self.old.level0 }
+        ensures same { (files : List Level) → HaveLevels F.has_level self.old.files files → HaveLevels F.has_level self.new.files files }
+        ensures number { length self.new.files ≡ length self.old.files }
+        ensures marked { drop (length self.old.files - mark) self.new.files ≡ drop (length self.old.files - mark) self.old.files }
+        ensures named { map F.named self.new.files ≡ map F.named self.old.files }
+        ensures cause { HaveCause (map F.faults self.old.files) (map F.faults self.new.files) result }
+        ensures intact { IfErr result (λ e. IsDamaged e → (files : List Level) → HaveLevels F.has_level self.old.files files → ⊥) }
+        ensures aside { self.new.aside ≡ self.old.aside }
+    {
+        let above = self.files.len() - mark as usize;
+        let all = merge_newest(alloc, &self.level0, &mut self.files, above)?;
+        Ok(all)
+    }
+
+    /// Puts the file that a flush made above the oldest `keep` files in place of all that is newer. It takes no memory.
+    pub fn settle_flush(&mut self, file: F, keep: u32)
+        requires within { keep ≤ length self.old.files }
+        requires few { keep < 8 }
+        requires none_aside { self.old.aside ≡ [] }
+        ensures index { (files : List Level) (level : Level) → HaveLevels F.has_level self.old.files files → F.has_level file level → HaveLevels F.has_level self.new.files (flushed level keep (index_of self.old.level0 files)).files }
+        ensures level { self.new.level0.level ≡ empty }
+        ensures spare { self.new.level0.spare ≡ self.old.level0.spare }
+        ensures number { length self.new.files ≡ keep + 1 }
+        ensures aside { self.new.aside ≡ take (length self.old.files - keep) self.old.files }
+    {
+        set_aside(&mut self.files, keep as usize, &mut self.aside);
+        put_first(&mut self.files, file);
+        self.level0.clear();
+    }
+
+    /// Puts one file in place of the oldest `mark` ones. It takes no memory.
+    pub fn replace_older(&mut self, mark: u32, file: F)
+        requires some { 1 ≤ mark }
+        requires within { mark ≤ length self.old.files }
+        requires none_aside { self.old.aside ≡ [] }
+        ensures index { (files : List Level) (level : Level) → HaveLevels F.has_level self.old.files files → F.has_level file level → HaveLevels F.has_level self.new.files (replaced level mark (index_of self.old.level0 files)).files }
+        ensures level0 { self.new.level0 ≡ self.old.level0 }
+        ensures number { length self.new.files + mark ≡ length self.old.files + 1 }
+        ensures aside { self.new.aside ≡ reverse (drop (length self.old.files - mark) self.old.files) }
+    {
+        set_oldest_aside(&mut self.files, mark as usize, &mut self.aside);
+        put_last(&mut self.files, file);
+    }
+
+    /// One of the files that were replaced, or None where none is left. It takes no memory.
+    pub fn take_aside(&mut self) -> Option<F>
+        ensures level0 { self.new.level0 ≡ self.old.level0 }
+        ensures files { self.new.files ≡ self.old.files }
+        ensures aside { self.old.aside ≡ self.new.aside ++ option_to_list result }
+        ensures none { IfNone result (self.old.aside ≡ []) }
+    {
+        self.aside.pop()
+    }
+
+    /// The files, of which the newest is the first. It takes no memory.
+    pub fn into_files(self) -> Vec<F>
+        requires { self.aside ≡ [] }
+        ensures { result.items ≡ self.files }
+    {
+        let PkIndex {
+            level0: _,
+            files,
+            aside: _,
+        } = self;
+        files
+    }
+
+    /// Number and base of each file, of which the newest is the first.
+    pub fn level_files(&self, alloc: Global) -> Result<Vec<(u64, u64)>, Memory>
+        ensures { IfOk result (λ told. told.items ≡ map F.named self.now.files) }
+    {
+        names_of(alloc, &self.files)
+    }
+
+    /// How often reads of the files failed, those set aside among them, as far as a u64 goes.
+    pub fn faults(&self) -> u64
+        ensures { result ≡ min (sum (map F.faults self.now.files) + sum (map F.faults self.now.aside)) (2 ^ 64 - 1) }
+    {
+        faults_of(&self.files).saturating_add(faults_of(&self.aside))
+    }
+}

@@ -1,0 +1,12 @@
+pub mod CalmCourses
+pub mod PartCalls
+pub mod EndingLaws
+pub mod Determined
+pub mod NoteLaws
+pub mod TextLaws
+pub mod PlainLaws
+pub mod PlainSteps
+pub mod RunLaws
+pub mod GatherLaws
+pub mod LaneLaws
+pub mod ClosingLaws
