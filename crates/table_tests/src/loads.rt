@@ -28,7 +28,14 @@ fn load(alloc: Global, schema: &Schema, file: &[u8]) -> Result<Load, LoadFault> 
     if file.len() > 67_108_864 {
         return Err(LoadFault::Memory);
     }
-    read_load(alloc, schema, file)
+    read_load(alloc, schema, file, false)
+}
+
+fn partial_load(alloc: Global, schema: &Schema, file: &[u8]) -> Result<Load, LoadFault> {
+    if file.len() > 67_108_864 {
+        return Err(LoadFault::Memory);
+    }
+    read_load(alloc, schema, file, true)
 }
 
 // Whether a line deletes at a key of this number.
@@ -86,6 +93,34 @@ fn faults_of_headers(rt: HostRuntime) -> Result<(), Fail> {
     for (file, fault) in &files {
         assert_eq!(rt; load(alloc, &schema, file).err(), Some(*fault));
     }
+    Ok(())
+}
+
+#[test]
+fn faults_of_partial_headers(rt: HostRuntime) -> Result<(), Fail> {
+    let alloc = rt.alloc();
+    let schema = dates(alloc)?;
+    let files: [(&[u8], LoadFault); 4] = [
+        (b"k\n1\n", LoadFault::NoDefault(2)),
+        (b"d\n", LoadFault::Missing(1)),
+        (b"k,k\n", LoadFault::NameTwice(2)),
+        (b"k,d\n1\n", LoadFault::Width(1)),
+    ];
+    for (file, fault) in &files {
+        assert_eq!(rt; partial_load(alloc, &schema, file).err(), Some(*fault));
+    }
+    Ok(())
+}
+
+#[test]
+fn partial_loads_carry_what_they_name(rt: HostRuntime) -> Result<(), Fail> {
+    let alloc = rt.alloc();
+    let schema = texts(alloc)?;
+    let keys = partial_load(alloc, &schema, b"k\na\n")?;
+    assert_eq!(rt; keys.given.len(), 0);
+    let both = partial_load(alloc, &schema, b"v,k\nx,a\n")?;
+    assert_eq!(rt; both.given.len(), 1);
+    assert!(rt; is_text_at(&both.ops.as_slice()[0], b"a", Some(b"x")));
     Ok(())
 }
 
