@@ -1,5 +1,5 @@
 -- What a report tells: the replies of one book to the jobs, in the order of their turns.
-use Rattle.std.specs.Prelude.{◌≡◌, ℕ, zero, suc, ◌+◌, ◌<◌, List, [], ◌∷◌, Option, Some, None, option_and_then, find, slice_get, IsSomeAnd, ◌==◌, ⊤, ◌⊎◌, Result, Ok, Err}
+use Rattle.std.specs.Prelude.{false, ◌≡◌, ℕ, zero, suc, ◌+◌, ◌<◌, List, [], ◌∷◌, Option, Some, None, option_and_then, find, slice_get, IsSomeAnd, ◌==◌, ⊤, ◌⊎◌, Result, Ok, Err}
 use Rattle.std.specs.FinMap as map
 use Rattle.dev_traits.specs.declared.faults.OutsideFault.TheVariants as outside
 use Rattle.pk_values.specs.Schemas.{Layout}
@@ -28,7 +28,7 @@ load_call (Ok load) = Some (call.Load load)
 load_call (Err f) = None
 
 abbrev pub call_of : Layout → Task → Option Call
-call_of s (task.Load bytes) = load_call (load_of s bytes)
+call_of s (task.Load bytes) = load_call (load_of s false bytes)
 call_of s (task.Scan want) = Some (call.Open want)
 call_of s task.Stat = Some call.Stat
 
@@ -101,7 +101,7 @@ StatOutcome None o = ⊥
 StatOutcome (Some t) o = o ≡ outcome.Turn t.reply
 
 abbrev pub IsOutcome : Layout → List Turn → ℕ → Task → Outcome → Type 0
-IsOutcome s ts n (task.Load bytes) o = LoadOutcome (load_of s bytes) (turn_of n ts) o
+IsOutcome s ts n (task.Load bytes) o = LoadOutcome (load_of s false bytes) (turn_of n ts) o
 IsOutcome s ts n (task.Scan want) o = ScanOutcome (turn_of n ts) o
 IsOutcome s ts n task.Stat o = StatOutcome (turn_of n ts) o
 

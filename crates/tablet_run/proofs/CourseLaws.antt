@@ -171,7 +171,7 @@ turn-other ts u k lt =
         by true e = let same : a ≡ b = (Decides-eqb a b).0 e in absurd (omega arith)
 
 outcome-turn : (s : Layout) (ts us : List Turn) (n : ℕ) (t : Task) (o : Outcome) → turn_of n us ≡ turn_of n ts → IsOutcome s ts n t o → IsOutcome s us n t o
-outcome-turn s ts us n (task.Load bytes) o e k = subst (λ (u : Option Turn). LoadOutcome (load_of s bytes) u o) (sym e) k
+outcome-turn s ts us n (task.Load bytes) o e k = subst (λ (u : Option Turn). LoadOutcome (load_of s false bytes) u o) (sym e) k
 outcome-turn s ts us n (task.Scan want) o e k = subst (λ (u : Option Turn). ScanOutcome u o) (sym e) k
 outcome-turn s ts us n task.Stat o e k = subst (λ (u : Option Turn). StatOutcome u o) (sym e) k
 
@@ -250,12 +250,12 @@ calm-status os h =
 
 -- what became of a job that had this turn
 abbrev pub TurnOutcome : Layout → Task → Turn → Outcome → Type 0
-TurnOutcome s (task.Load bytes) u o = LoadOutcome (load_of s bytes) (Some u) o
+TurnOutcome s (task.Load bytes) u o = LoadOutcome (load_of s false bytes) (Some u) o
 TurnOutcome s (task.Scan want) u o = ScanOutcome (Some u) o
 TurnOutcome s task.Stat u o = StatOutcome (Some u) o
 
 outcome-at : (s : Layout) (ts : List Turn) (u : Turn) (n : ℕ) (t : Task) (o : Outcome) → turn_of n ts ≡ Some u → TurnOutcome s t u o → IsOutcome s ts n t o
-outcome-at s ts u n (task.Load bytes) o e k = subst (λ (x : Option Turn). LoadOutcome (load_of s bytes) x o) (sym e) k
+outcome-at s ts u n (task.Load bytes) o e k = subst (λ (x : Option Turn). LoadOutcome (load_of s false bytes) x o) (sym e) k
 outcome-at s ts u n (task.Scan want) o e k = subst (λ (x : Option Turn). ScanOutcome x o) (sym e) k
 outcome-at s ts u n task.Stat o e k = subst (λ (x : Option Turn). StatOutcome x o) (sym e) k
 
@@ -267,7 +267,7 @@ turn-last ts u n none e =
 
 -- a load that was refused, or wanted memory, before its turn
 pub course-refused : (s : Layout) (tasks : List Task) (b : Book) (order : List Item) (os : List Outcome) (bytes : List ℕ) (o : Outcome)
-    → IsCourse s tasks b order os → LoadOutcome (load_of s bytes) None o → EndsCalmly o → IsCourse s (tasks ++ task.Load bytes ∷ []) b order (os ++ o ∷ [])
+    → IsCourse s tasks b order os → LoadOutcome (load_of s false bytes) None o → EndsCalmly o → IsCourse s (tasks ++ task.Load bytes ∷ []) b order (os ++ o ∷ [])
 course-refused s tasks b order os bytes o c k calm =
     let t : Task = task.Load bytes in
     let count = length-append tasks (t ∷ []) in
@@ -279,7 +279,7 @@ course-refused s tasks b order os bytes o c k calm =
       in_order = c.in_order;
       legal = replies-more s tasks t new_book 1 order c.replies c.within c.legal;
       told = subst (λ ts. AreOutcomes s ts 1 (tasks ++ t ∷ []) (os ++ o ∷ [])) (sym (turns-more s tasks t new_book 1 order c.replies c.within))
-          (outcomes-push s _ 1 (length tasks + 1) tasks os t o (omega arith) c.told (subst (λ (u : Option Turn). LoadOutcome (load_of s bytes) u o) (sym none) k));
+          (outcomes-push s _ 1 (length tasks + 1) tasks os t o (omega arith) c.told (subst (λ (u : Option Turn). LoadOutcome (load_of s false bytes) u o) (sym none) k));
       left = left-more s tasks t new_book 1 order c.replies c.within ∙ c.left;
       few = omega (arith, c.few, count);
       open_book = c.open_book;

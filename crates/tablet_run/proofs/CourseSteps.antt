@@ -155,6 +155,7 @@ refused-outcome r f h = by f h
     by (fault.UnknownName c) k = told (fault.UnknownName c) (k (λ e. cc))
     by (fault.NameTwice c) k = told (fault.NameTwice c) (k (λ e. cc))
     by (fault.Missing c) k = told (fault.Missing c) (k (λ e. cc))
+    by (fault.NoDefault c) k = told (fault.NoDefault c) (k (λ e. cc))
     by fault.ManyRows k = told fault.ManyRows (k (λ e. cc))
     by (fault.Width n) k = told (fault.Width n) (k (λ e. cc))
     by (fault.BadOp n) k = told (fault.BadOp n) (k (λ e. cc))
@@ -167,6 +168,7 @@ fault-calm fault.NoHeader = inr (inl refl)
 fault-calm (fault.UnknownName c) = inr (inl refl)
 fault-calm (fault.NameTwice c) = inr (inl refl)
 fault-calm (fault.Missing c) = inr (inl refl)
+fault-calm (fault.NoDefault c) = inr (inl refl)
 fault-calm fault.ManyRows = inr (inl refl)
 fault-calm (fault.Width n) = inr (inl refl)
 fault-calm (fault.BadOp n) = inr (inl refl)
@@ -174,14 +176,14 @@ fault-calm (fault.BadCell n c) = inr (inl refl)
 fault-calm (fault.KeyTooLong n l) = inr (inl refl)
 fault-calm fault.Memory = inr (inr refl)
 
-pub adds-refused : (s : Layout) (job : ℕ) (bytes : List ℕ) (f : LoadFault) (old new : Course) → (f ≢ fault.Memory → load_of s bytes ≡ Err f)
+pub adds-refused : (s : Layout) (job : ℕ) (bytes : List ℕ) (f : LoadFault) (old new : Course) → (f ≢ fault.Memory → load_of s false bytes ≡ Err f)
     → new.book ≡ old.book → new.order ≡ old.order → new.outcomes ≡ old.outcomes ++ outcome.Load f ∷ [] → Adds s job (task.Load bytes) old new
 adds-refused s job bytes f old new h book order outcomes tasks e c =
     let all : List Task = tasks ++ task.Load bytes ∷ [] in
     subst (λ (x : Book). IsCourse s all x new.order new.outcomes) (sym book)
     (subst (λ (x : List Item). IsCourse s all old.book x new.outcomes) (sym order)
     (subst (λ (x : List Outcome). IsCourse s all old.book old.order x) (sym outcomes)
-    (course-refused s tasks old.book old.order old.outcomes bytes (outcome.Load f) c (refused-outcome (load_of s bytes) f h) (fault-calm f))))
+    (course-refused s tasks old.book old.order old.outcomes bytes (outcome.Load f) c (refused-outcome (load_of s false bytes) f h) (fault-calm f))))
 
 -- ---- a job with its turn
 

@@ -1,4 +1,4 @@
-ghost use Rattle.std.specs.Prelude.{◌≡◌, ◌<◌, ◌≤◌, ◌+◌, ◌^◌, ℕ, List, [], ◌∷◌, ◌++◌, length, Ok, None, IfOk, OnOk, IsSomeAnd, ⊤};
+ghost use Rattle.std.specs.Prelude.{◌≡◌, ◌<◌, ◌≤◌, ◌+◌, ◌^◌, ℕ, List, [], ◌∷◌, ◌++◌, length, Ok, None, false, IfOk, OnOk, IsSomeAnd, ⊤};
 ghost use Rattle.std.specs.FinMap as map;
 ghost use Rattle.std.specs.List.{AllByRecursion};
 ghost use Rattle.load_csv.specs.Loads.{load_of};
@@ -122,7 +122,7 @@ impl Course {
         requires few { greatest_number self.old.book < 2 ^ 62 }
         requires open_book { self.old.book.closed ≡ None }
         requires lawful { IsLawful schema.now load }
-        ensures { OnOk result ((bytes : List ℕ) → load_of schema.now bytes ≡ Ok load → Adds schema.now job (Task.Load bytes) self.old self.new) }
+        ensures { OnOk result ((bytes : List ℕ) → load_of schema.now false bytes ≡ Ok load → Adds schema.now job (Task.Load bytes) self.old self.new) }
     {
         let reply = load_reply(alloc, schema, &mut self.book, load);
         self.push(job, Outcome::Turn(reply))
@@ -141,7 +141,7 @@ impl Course {
         requires within { length bytes.now ≤ 67108864 }
         ensures { OnOk result (Adds schema.now job (Task.Load bytes.now) self.old self.new) }
     {
-        match read_load(alloc, schema, bytes) {
+        match read_load(alloc, schema, bytes, false) {
             Ok(load) => self.publish(alloc, schema, job, load),
             Err(fault) => self.outcomes.push(Outcome::Load(fault)),
         }
