@@ -1,7 +1,6 @@
 -- How long the code of a key may be.
-use Rattle.std.proofs.Common.{◌≡◌, ◌≤◌, ◌<◌, ◌^◌, ℕ, zero, suc, ◌+◌, ◌*◌, ◌==◌, List, [], ◌∷◌, ◌++◌, Bool, true, false, if◌then◌else◌, Some, None, refl, sym, ap, ◌∙◌, arith, take, length, length-append}
-use Rattle.std.specs.Prelude.{slice_get, ◌&&◌, nat_le, not}
-use Rattle.std.specs.Cmp.Lexicographic.{pointwise}
+use Rattle.std.proofs.Common.{◌≡◌, ◌≤◌, ◌<◌, ◌^◌, ℕ, zero, suc, ◌+◌, ◌*◌, ◌==◌, List, [], ◌∷◌, Bool, true, false, if◌then◌else◌, Some, None, refl, sym, ap, ◌∙◌, arith, take, length, length-append}
+use Rattle.std.specs.Prelude.{slice_get, nat_le}
 use Rattle.std.proofs.lemmas.Bool.{and_parts, leb-true}
 use Rattle.fixed_code.proofs.Codes.{length-code}
 use Rattle.pk_values.specs.declared.cells.Kind.{Kind}
@@ -11,7 +10,7 @@ use Rattle.pk_values.specs.declared.cells.Value.TheVariants as value
 use Rattle.pk_values.specs.declared.cells.Column.{Column}
 use Rattle.pk_values.specs.Fits.{fits, fits_all, fits_kind}
 use Rattle.pk_values.specs.Schemas.{Layout, fits_key, is_kind, schema_fault}
-use Rattle.pk_values.specs.SchemaFacts.{keys_within, lawful_column}
+use Rattle.pk_values.specs.SchemaFacts.{lawful_column}
 use Rattle.std.proofs.lemmas.List.{take_all}
 use Rattle.key_code.specs.Drafts.{Draft, draft_of}
 use Rattle.key_code.specs.Escapes.{escaped}

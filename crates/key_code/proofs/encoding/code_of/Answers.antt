@@ -1,4 +1,4 @@
-use Rattle.std.proofs.Common.{◌+◌, arith, drop, get_or}
+use Rattle.std.proofs.Common.{arith, get_or}
 use Rattle.std.proofs.lemmas.List.{get_or_default}
 use Rattle.key_code.proofs.Drafting.{all_written, part_written, room_in, short_more}
 use Rattle.key_code.proofs.KeyLemmas.{cell_at, none_left, same_count}
