@@ -1,10 +1,10 @@
-ghost use Rattle.std.specs.Prelude.{◌≡◌, ◌≤◌, ◌<◌, ◌^◌, All, List, IfErr, IfNone, IfOk, IfSome, IsTrue, ◌↔◌, length, map};
+ghost use Rattle.std.specs.Prelude.{◌≡◌, ◌≤◌, ◌<◌, ◌^◌, All, List, IfErr, IfNone, IfOk, IfSome, IsTrue, ◌↔◌, Some, length, map, slice_get};
 ghost use Rattle.pk_values.specs.Schemas.{is_kind};
 ghost use Rattle.pk_values.specs.declared.cells.Value.{Value};
 ghost use Rattle.column_page.specs.CellBytes.{cell_bytes};
 ghost use Rattle.column_page.specs.Page.{column_cells, page, page_of, plain, shorter, AllFit, Cell};
 ghost use Rattle.column_page.specs.Texts.{lent, AreTexts, HaveTexts};
-ghost use Rattle.column_page.specs.Reading.{AreCells, NoCells, OnlyCells};
+ghost use Rattle.column_page.specs.Reading.{AreCells, IsCellAt, NoCells, OnlyCells};
 
 use crate::decode::{read_dictionary, read_plain, read_runs};
 use crate::faults::PageFault;
@@ -180,4 +180,36 @@ pub fn decode_page(
     } else {
         Err(PageFault::NotAPage)
     }
+}
+
+// The value in a place.
+fn take_value(mut values: Vec<Value>, place: usize) -> Value
+    requires { place < length values.items }
+    ensures { slice_get values.items place ≡ Some result }
+{
+    values.swap_remove(place)
+}
+
+/// The cell in a place, counted from 0, of the cells of the column that have this page, of which
+/// there are `count`.
+///
+/// # Errors
+/// Those of `decode_page`: all of the page is looked at.
+pub fn decode_cell(
+    alloc: Global,
+    column: &Column,
+    count: u32,
+    bytes: &[u8],
+    place: u32,
+) -> Result<Value, PageFault>
+    requires kind { IsTrue (is_kind column.now.kind) }
+    requires there { place < count }
+    ensures cell { IfOk result (λ cell. IsCellAt column.now count bytes.now place cell) }
+
+    // All cells that have this page have it there.
+    ensures only { IfOk result (λ cell. (cells : List Value) → AreCells column.now count cells → page_of column.now cells ≡ bytes.now → slice_get cells place ≡ Some cell) }
+    ensures none { IfErr result (λ e. e ≡ PageFault.NotAPage → NoCells column.now count page bytes.now) }
+{
+    let cells = decode_page(alloc, column, count, bytes)?;
+    Ok(take_value(cells, place as usize))
 }
