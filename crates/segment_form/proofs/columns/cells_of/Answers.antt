@@ -32,5 +32,5 @@ loop-row-preserved c =
     let there = has_column c.args.schema.now c.args.column c.loop-row.row-index c.args.rows.now c.row-item.result c.row.inside.cells.items c.requires.fit c.loop-row-test.true is c.requires.there in
     (c.in_ok-push.ensures).items
     ∙ ap (λ (cells : List Value). cells ++ c.in_ok-copy.field-0 ∷ []) c.loop-row.invariant
-    ∙ ap (λ (v : Value). column_cells c.args.column (take c.loop-row.row-index c.args.rows.now) ++ v ∷ []) c.in_ok-copy.ensures
+    ∙ ap (λ (v : Value). column_cells c.args.column (take c.loop-row.row-index c.args.rows.now) ++ v ∷ []) c.in_ok-copy.ensures.value
     ∙ one_more c.args.column c.loop-row.row-index c.args.rows.now c.row-item.result c.row.inside.cells.items c.index.result.now c.loop-row-test.true is there c.index.ensures
