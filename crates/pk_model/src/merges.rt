@@ -17,14 +17,14 @@ use std::collections::VecDeque;
 // Sorts lines by their keys. The lines of one key stay in file order. Numbers beside the lines are sorted first, which
 // takes no
 // look at a key. The second sort then finds the lines in order, but for keys of one number.
-pub fn sorted(mut ops: Vec<Op>) -> Result<Vec<Op>, AllocError>
+pub fn sorted(alloc: Global, schema: &Schema, mut ops: Vec<Op>) -> Result<Vec<Op>, AllocError>
     ensures rise { IfOk result (λ sorted. T (rise sorted.items)) }
     ensures same { IfOk result (λ sorted. (s : Layout) (given : List ℕ) (m : Rows)
         → after_lines s given sorted.items m ≡ after_lines s given ops.items m) }
     ensures writes { IfOk result (λ sorted. writes sorted.items ≡ writes ops.items) }
     ensures count { IfOk result (λ sorted. length sorted.items ≡ length ops.items) }
 {
-    ops.sort_by_cached_key(|op| key_number(op.key()))?;
+    ops.sort_by_cached_key(|op| key_number(alloc, schema, op.key()))?;
     ops.sort_by(|a, b| a.key().cmp(b.key()))?;
     Ok(ops)
 }

@@ -1,60 +1,43 @@
 ghost use Rattle.std.specs.Prelude.{◌≡◌};
-ghost use Rattle.byteorder.specs.Endian.{big_number};
-ghost use Rattle.pk_model.specs.SortNumbers.{cell_number, integer_number, key_number};
+ghost use Rattle.pk_values.specs.Fits.{fits_all};
+ghost use Rattle.pk_values.specs.Schemas.{fits_key};
+ghost use Rattle.pk_model.specs.SortNumbers.{key_number};
 
-use byteorder::{BigEndian, ByteOrder};
-use pk_values::{Key, Value};
+use key_code::{encode, prefix};
+use pk_values::{Column, Key, Schema, Value};
+use std::alloc::Global;
 
-const HALF: i128 = 0x8000_0000_0000_0000;
-
-// The place of a number among those of 64 bits, from the least one on. One above or below them all has the place of the
-// greatest or the least.
-fn integer_number(number: i128) -> u64
-    ensures { result ≡ integer_number number }
+// Whether there is one fitting cell for each column.
+fn fits_all(columns: &[Column], cells: &[Value]) -> bool
+    ensures { result ≡ fits_all columns.now cells.now }
 {
-    if number < -HALF {
-        0
-    } else if number < HALF {
-        (number + HALF) as u64
-    } else {
-        u64::MAX
+    if cells.len() != columns.len() {
+        return false;
     }
-}
-
-// The first eight bytes of a text, the high one first, and zero bytes behind a shorter one.
-fn text_number(text: &[u8]) -> u64
-    ensures { result ≡ big_number 8 text.now }
-{
-    match text.first_chunk::<8>() {
-        Some(first) => BigEndian::read_u64(first),
-        None => {
-            let mut padded = [0; 8];
-            padded[..text.len()].copy_from_slice(text);
-            BigEndian::read_u64(&padded)
+    for i in 0..columns.len() {
+        if !columns[i].fits(&cells[i]) {
+            return false;
         }
     }
+    true
 }
 
-fn cell_number(cell: &Value) -> u64
-    ensures { result ≡ cell_number cell.now }
+fn fits_key(schema: &Schema, key: &Key) -> bool
+    ensures { result ≡ fits_key schema.now key.now }
 {
-    match cell {
-        Value::Null => 0,
-        Value::Bool(truth) => u64::from(*truth),
-        Value::Num(number) => integer_number(*number),
-        Value::Day(day) => integer_number(i128::from(*day)),
-        Value::Text(text) => text_number(text.as_slice()),
+    fits_all(&schema.columns()[..schema.keys() as usize], &key.cells)
+}
+
+/// What keys are sorted by first: the first eight bytes of the key's code as a number. Keys of different numbers are in the
+/// order of these; keys of one number need a look at themselves. A key that has no code is given 0.
+pub fn key_number(alloc: Global, schema: &Schema, key: &Key) -> u64
+    ensures { result ≡ key_number schema.now key.now }
+{
+    if !fits_key(schema, key) {
+        return 0;
     }
-}
-
-/// What keys are sorted by first: their first cell as a number, as far as 64 bits tell it. Keys whose numbers differ
-/// are in
-/// the order of these, where their cells are of one kind; keys of one number need a look at themselves.
-pub fn key_number(key: &Key) -> u64
-    ensures { result ≡ key_number key.now }
-{
-    match key.cells.first() {
-        Some(cell) => cell_number(cell),
-        None => 0,
+    match encode(alloc, schema, key) {
+        Ok(code) => prefix(&code),
+        Err(_) => 0,
     }
 }

@@ -1,4 +1,5 @@
 use Rattle.std.proofs.Common.{rules}
+use Rattle.std.proofs.lemmas.Fn.{always_returns_same}
 use Rattle.std.proofs.lemmas.List.Sorted.{ranks_by, answers_always}
 use Rattle.pk_values.specs.OrderFacts.{key_total}
 use Rattle.pk_model.specs.SortNumbers.{key_number}
@@ -12,10 +13,10 @@ returns-clause-rise c = rise-sorted _ (c.in_ok-sort_by.ensures.sorted _ (ranks_b
 
 pub returns-clause-same : goal.returns-clause-same
 returns-clause-same c =
-    same-rows c.args.ops.items c.sort_by.new.self.items (twice-sorted key_number c.args.ops.items c.sort_by_cached_key.new.self.items c.sort_by.new.self.items (c.sort_by_cached_key.ensures.stable (λ op. key_number (key_named op)) (answers_always _ _ _ (λ f a r f' k. search rules)))
+    same-rows c.args.ops.items c.sort_by.new.self.items (twice-sorted (key_number c.args.schema.now) c.args.ops.items c.sort_by_cached_key.new.self.items c.sort_by.new.self.items (c.sort_by_cached_key.ensures.stable (λ op. key_number c.args.schema.now (key_named op)) (always_returns_same _ _ _ (λ a r f' k. search rules)))
     (c.sort_by.ensures.stable _ (ranks_by key_total key_named) (answers_always _ _ _ (λ f a r f' k. search rules))))
 
 pub returns-clause-writes : goal.returns-clause-writes
 returns-clause-writes c =
-    writes-sorted c.args.ops.items c.sort_by.new.self.items (twice-sorted key_number c.args.ops.items c.sort_by_cached_key.new.self.items c.sort_by.new.self.items (c.sort_by_cached_key.ensures.stable (λ op. key_number (key_named op)) (answers_always _ _ _ (λ f a r f' k. search rules)))
+    writes-sorted c.args.ops.items c.sort_by.new.self.items (twice-sorted (key_number c.args.schema.now) c.args.ops.items c.sort_by_cached_key.new.self.items c.sort_by.new.self.items (c.sort_by_cached_key.ensures.stable (λ op. key_number c.args.schema.now (key_named op)) (always_returns_same _ _ _ (λ a r f' k. search rules)))
     (c.sort_by.ensures.stable _ (ranks_by key_total key_named) (answers_always _ _ _ (λ f a r f' k. search rules))))
