@@ -54,7 +54,7 @@ fn inputs_of(alloc: Global, case: &Case) -> Result<MemInputs, Fail> {
         files.push(entry(alloc, b"a", file)?)?;
     }
     let fails = Vec::from_slice(alloc, case.input_fails)?;
-    Ok(MemInputs::new(files, fails))
+    Ok(MemInputs::new(alloc, files, fails)?)
 }
 
 // Runs words over a case, with a sink that takes four bytes a put, and compares the status, what was put and how the cause's text begins.

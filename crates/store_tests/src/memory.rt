@@ -27,7 +27,7 @@ fn two_of_a_name(alloc: Global) -> Result<MemInputs, Memory> {
     let mut files = Vec::new(alloc);
     files.push((name, Octets::from_slice(alloc, b"xyz")?))?;
     files.push((same, Octets::from_slice(alloc, b"other")?))?;
-    Ok(MemInputs::new(files, [3].to_vec(alloc)?))
+    MemInputs::new(alloc, files, [3].to_vec(alloc)?)
 }
 
 #[test]
