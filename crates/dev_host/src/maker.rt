@@ -2,8 +2,8 @@ ghost use Rattle.std.specs.Prelude.{◌≡◌, ◌^◌, ◌≤◌, ◌+◌, None
 ghost use Rattle.dev_traits.specs.Causes.{Counts};
 ghost use Rattle.dev_host.specs.Silent.{silent_maker};
 
-use crate::disk::{MOST, adopted_path, make_folder};
-use dev_traits::{DevError, FileMaker, Memory};
+use crate::disk::{adopted_path, make_folder};
+use dev_traits::{DevError, FileMaker, LONGEST, Memory};
 use std::alloc::Global;
 use std::fs::File;
 use std::io;
@@ -14,6 +14,8 @@ use std::rt::Files;
 #[derive(Drop)]
 pub struct HostSealed<R: Files> {
     pub(crate) host: R,
+    /// The file that was written, open until it is synced.
+    pub(crate) file: R::File,
     /// Where the file lies.
     pub(crate) made: String,
     /// Has room for the path of an adopted file.
@@ -22,7 +24,8 @@ pub struct HostSealed<R: Files> {
     ghost short: { size ≤ 2 ^ 44 },
 }
 
-/// A maker of files in a folder. Each lies under a name of its own until it is adopted; an unfinished one is made anew under the same name.
+/// A maker of files in a folder. Each lies under a name of its own until it is adopted; an unfinished one is made
+/// anew under the same name.
 #[derive(Drop)]
 pub struct HostMaker<R: Files> {
     alloc: Global,
@@ -48,6 +51,7 @@ fn open_new<R: Files>(host: &R, folder: &str, path: &str) -> io::Result<R::File>
 fn sealed<R: Files + Clone>(
     alloc: Global,
     host: &R,
+    file: R::File,
     folder: &str,
     made: &str,
     size: u64,
@@ -59,6 +63,7 @@ fn sealed<R: Files + Clone>(
     let host = host.clone()?;
     Ok(HostSealed {
         host,
+        file,
         made,
         path,
         size,
@@ -120,7 +125,7 @@ impl<R: Files + Clone + Drop> FileMaker for HostMaker<R> {
     }
 
     fn add(&mut self, piece: &[u8]) -> Result<(), DevError> {
-        if piece.len() as u64 > MOST - self.size {
+        if piece.len() as u64 > LONGEST - self.size {
             return Err(self.fail());
         }
         let Some(file) = &mut self.file else {
@@ -134,9 +139,18 @@ impl<R: Files + Clone + Drop> FileMaker for HostMaker<R> {
     }
 
     fn seal(&mut self) -> Result<HostSealed<R>, DevError> {
-        self.file = None;
+        let Some(file) = self.file.take() else {
+            return Err(self.fail());
+        };
         self.files = self.files.saturating_add(1);
-        match sealed(self.alloc, &self.host, &self.folder, &self.path, self.size) {
+        match sealed(
+            self.alloc,
+            &self.host,
+            file,
+            &self.folder,
+            &self.path,
+            self.size,
+        ) {
             Ok(sealed) => Ok(sealed),
             Err(_) => Err(DevError::Memory),
         }

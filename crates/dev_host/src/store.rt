@@ -3,11 +3,11 @@ ghost use Rattle.dev_traits.specs.Causes.{HasCause};
 ghost use Rattle.dev_host.specs.Silent.{silent_view};
 
 use crate::disk::{
-    MOST, adopted_path, length_of, make_folder, path_in, read_from, settle, sync_path, write_blank,
+    adopted_path, length_of, make_folder, new_blank, path_in, read_from, settle, sync_area,
     write_to,
 };
 use crate::{HostMaker, HostReader, HostSealed};
-use dev_traits::{DevError, Failed, FileMaker, Memory, SealedReader, Store};
+use dev_traits::{DevError, Failed, FileMaker, LONGEST, Memory, SealedReader, Store};
 use std::alloc::Global;
 use std::fmt::Write;
 use std::io::ErrorKind;
@@ -16,19 +16,22 @@ use std::{fs, io};
 
 /// A store in a folder: area A in the file `areaA`, the adopted file of number N in `fN`. Nothing is told of the bytes.
 ///
-/// Nothing is written before the first call that writes. What is forgotten is noted, and removed by `sweep`. A maker's file lies in the folder
-/// as `mK-N` until it is adopted.
+/// Nothing is written before the first call that writes. What is forgotten is noted, and removed by `sweep`. A
+/// maker's file lies in the folder as `mK-N` until it is adopted.
 #[derive(Drop)]
 pub struct HostStore<R: Files> {
     alloc: Global,
     host: R,
     folder: String,
     areas: Vec<String>,
+    // Of each area the file that writes it, from its first write or sync on.
+    writers: Vec<Option<R::File>>,
     blank_path: String,
     makers: u64,
     noted: Vec<u64>,
     faults: u64,
     ghost three: { length areas.items ≡ 3 },
+    ghost three_writers: { length writers.items ≡ 3 },
 }
 
 fn number_in(digits: &str) -> Option<u64> {
@@ -36,7 +39,7 @@ fn number_in(digits: &str) -> Option<u64> {
 }
 
 // The number of an adopted file's name.
-fn number_of(name: &str) -> Option<u64> {
+fn adopted_number(name: &str) -> Option<u64> {
     match name.strip_prefix('f') {
         Some(digits) => number_in(digits),
         None => None,
@@ -69,19 +72,25 @@ impl<R: Files + AllocGlobal + Clone + Drop> HostStore<R> {
         areas.push(path_in(alloc, folder, "area0")?)?;
         areas.push(path_in(alloc, folder, "area1")?)?;
         areas.push(path_in(alloc, folder, "area2")?)?;
+        let mut writers = Vec::new(alloc);
+        writers.push(None)?;
+        writers.push(None)?;
+        writers.push(None)?;
         Ok(HostStore {
             alloc,
             blank_path: path_in(alloc, folder, "blank")?,
             folder: String::from_str(alloc, folder)?,
             host,
             areas,
+            writers,
             makers: 0,
             noted: Vec::new(alloc),
             faults: 0,
         })
     }
 
-    /// Removes the files that were forgotten, and those that makers made and nobody adopted. One that can't be removed stays.
+    /// Removes the files that were forgotten, and those that makers made and nobody adopted. One that can't be
+    /// removed stays.
     pub fn sweep(self) {
         for number in &self.noted {
             if let Ok(path) = adopted_path(self.alloc, &self.folder, *number) {
@@ -125,7 +134,7 @@ impl<R: Files + AllocGlobal + Clone + Drop> HostStore<R> {
         match fs::read_dir(&self.host, &self.folder) {
             Ok(entries) => {
                 for entry in entries {
-                    if let Some(number) = number_of(entry?.file_name())
+                    if let Some(number) = adopted_number(entry?.file_name())
                         && keep.binary_search(&number).is_err()
                     {
                         noted.push(number)?;
@@ -165,15 +174,36 @@ impl<R: Files + AllocGlobal + Clone + Drop> HostStore<R> {
         }
     }
 
+    // Writes an area through its writer.
+    fn write(&mut self, area: u32, at: u64, piece: &[u8]) -> io::Result<()>
+        requires { area < 3 }
+        ensures { self.new.faults ≡ self.old.faults }
+    {
+        let path = &self.areas[area as usize];
+        let writer = &mut self.writers[area as usize];
+        write_to(&self.host, path, writer, at, piece)
+    }
+
+    // Syncs an area through its writer, which a first sync opens.
+    fn sync_writer(&mut self, area: u32) -> io::Result<()>
+        requires { area < 3 }
+        ensures { self.new.faults ≡ self.old.faults }
+    {
+        let path = &self.areas[area as usize];
+        let writer = &mut self.writers[area as usize];
+        sync_area(&self.host, path, writer)
+    }
+
     // Writes a blank file of its own name, and puts it in the place of an area.
     fn put_blank(&self, area: u32) -> io::Result<()>
         requires { area < 3 }
     {
         make_folder(&self.host, &self.folder)?;
-        write_blank(&self.host, &self.blank_path)?;
+        let file = new_blank(&self.host, &self.blank_path)?;
         settle(
             &self.host,
             &self.folder,
+            file,
             &self.blank_path,
             &self.areas[area as usize],
         )
@@ -188,14 +218,6 @@ fn area_length<R: Files>(host: &R, path: &str) -> io::Result<u64>
         Ok(length) => Ok(length),
         Err(error) if error.kind() == ErrorKind::NotFound => Ok(0),
         Err(error) => Err(error),
-    }
-}
-
-// An area whose file isn't there has nothing to sync.
-fn sync_area<R: Files>(host: &R, path: &str) -> io::Result<()> {
-    match sync_path(host, path) {
-        Err(error) if error.kind() == ErrorKind::NotFound => Ok(()),
-        answered => answered,
     }
 }
 
@@ -256,21 +278,22 @@ impl<R: Files + AllocGlobal + Clone + Drop> Store for HostStore<R> {
     }
 
     fn write_at(&mut self, area: u32, at: u64, piece: &[u8]) -> Result<(), Failed> {
-        if at > MOST || piece.len() as u64 > MOST - at {
+        if at > LONGEST || piece.len() as u64 > LONGEST - at {
             self.faults = self.faults.saturating_add(1);
             return Err(Failed);
         }
-        let answered = write_to(&self.host, &self.areas[area as usize], at, piece);
+        let answered = self.write(area, at, piece);
         self.answer(answered)
     }
 
     fn sync(&mut self, area: u32) -> Result<(), Failed> {
-        let answered = sync_area(&self.host, &self.areas[area as usize]);
+        let answered = self.sync_writer(area);
         self.answer(answered)
     }
 
     fn blank(&mut self, area: u32) -> Result<(), Failed> {
         let answered = self.put_blank(area);
+        self.writers[area as usize] = None;
         self.answer(answered)
     }
 
@@ -284,6 +307,7 @@ impl<R: Files + AllocGlobal + Clone + Drop> Store for HostStore<R> {
     fn adopt(&mut self, number: u64, sealed: HostSealed<R>) -> Result<HostReader<R>, Failed> {
         let HostSealed {
             host,
+            file,
             made,
             mut path,
             size,
@@ -292,7 +316,7 @@ impl<R: Files + AllocGlobal + Clone + Drop> Store for HostStore<R> {
             self.faults = self.faults.saturating_add(1);
             return Err(Failed);
         }
-        let answered = settle(&self.host, &self.folder, &made, &path);
+        let answered = settle(&self.host, &self.folder, file, &made, &path);
         self.answer(answered)?;
         self.keep_adopted(number);
         Ok(HostReader::new(host, path, size))

@@ -6,7 +6,7 @@ use Rattle.std.proofs.Math.ListN.{get_or-map}
 use Rattle.std.proofs.lemmas.Bool.{eqb-true}
 use Rattle.dev_traits.specs.Image.{Torn}
 use Rattle.dev_memory.specs.Disk.{Deed, Wrote, Synced, Blanked, ChangedFiles, AreaDisk, at_rest, area_in, Reaches, wrote, blanked, after, replay, deeds, written}
-use Rattle.dev_memory.specs.Crash.{size_of, deed_of, one_after, one_replay, settles, IsAtRest, Stands, Left}
+use Rattle.dev_memory.specs.Crash.{size_of, deed_of, one_after, one_replay, settles, IsAtRest, Remains, Left}
 use Rattle.dev_memory.specs.Laws.{length-after}
 use Rattle.dev_memory.specs.declared.call.Call.{Call}
 use Rattle.dev_memory.specs.declared.call.Call.TheVariants.{Write, Sync, Blank, OnFiles}
@@ -93,11 +93,11 @@ torn_within at n piece old new le torn = torn_less at (length piece) n old new l
 -- the whole: calls up to a rest, and the others
 pub left_whole : (a pick : ℕ) (start : List ℕ) (calls : List Call) (pieces : List ℕ) (n : ℕ) (early late : List Call) (at_bytes bytes left : List ℕ) → early ≡ take n calls → late ≡ drop n calls
     → IsAtRest (one_replay a (deeds pieces early) (at_rest start)) → at_bytes ≡ (one_replay a (deeds pieces early) (at_rest start)).bytes → (pick ≡ 0 → ⊥)
-    → ((d : AreaDisk) → Stands pick d at_bytes at_bytes → Stands pick (one_replay a (deeds (drop (written early) pieces) late) d) bytes left)
+    → ((d : AreaDisk) → Remains pick d at_bytes at_bytes → Remains pick (one_replay a (deeds (drop (written early) pieces) late) d) bytes left)
     → Left pick (one_replay a (deeds pieces calls) (at_rest start)) left
 left_whole a pick start calls pieces n early late at_bytes bytes left front back rest reads some stands =
     let d = one_replay a (deeds pieces early) (at_rest start) in
-    let first : Stands pick d at_bytes at_bytes = record {
+    let first : Remains pick d at_bytes at_bytes = record {
       reads = sym reads;
       reaches = subst (λ (x : AreaDisk). Reaches x.base x.steps at_bytes) (sym rest) reads;
       synced = λ one. reads ∙ sym (ap (λ (x : AreaDisk). x.base) rest);

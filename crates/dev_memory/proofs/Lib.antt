@@ -6,6 +6,7 @@ mod Steps
 mod Growing
 mod Crashes
 mod Leaving
+mod Searching
 mod Spoiling
 mod Views
 mod Beginning

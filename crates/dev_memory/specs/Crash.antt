@@ -1,7 +1,8 @@
 -- One area after some calls, and what a crash leaves of it.
 use Rattle.std.specs.Prelude.{◌≡◌, ℕ, Bool, false, ◌&&◌, nat_eq, if◌then◌else◌, List, [], ◌∷◌}
 use Rattle.dev_traits.specs.Image.{Image, area_of}
-use Rattle.dev_memory.specs.Disk.{Disk, area_disk, AreaDisk, at_rest, Reaches, Deed, Wrote, Synced, Blanked, ChangedFiles, wrote, blanked}
+use Rattle.dev_memory.specs.Disk.{Disk, area_disk, AreaDisk, at_rest, Reaches, Deed, Wrote, Synced, Blanked}
+use Rattle.dev_memory.specs.Disk.{ChangedFiles, wrote, blanked}
 use Rattle.dev_memory.specs.declared.call.Call.{Call}
 use Rattle.dev_memory.specs.declared.call.Call.TheVariants.{Write, Sync, Blank, OnFiles}
 
@@ -52,7 +53,7 @@ abbrev pub IsAtRest : AreaDisk → Type 0
 IsAtRest d = d ≡ at_rest d.bytes
 
 -- what an area reads as, and what is left of it by this pick: for 1 what was there at the last sync
-pub record Stands (pick : ℕ) (d : AreaDisk) (bytes left : List ℕ) : Type 0 where
+pub record Remains (pick : ℕ) (d : AreaDisk) (bytes left : List ℕ) : Type 0 where
   pub reads : d.bytes ≡ bytes
   pub reaches : Reaches d.base d.steps left
   pub synced : pick ≡ 1 → left ≡ d.base

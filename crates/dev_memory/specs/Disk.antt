@@ -1,5 +1,6 @@
 -- What a store in memory keeps, and what a crash may leave of it.
-use Rattle.std.specs.Prelude.{◌≡◌, ◌⊎◌, ℕ, ◌+◌, ◌-◌, ◌≤◌, nat_le, nat_lt, nat_eq, ◌^◌, Bool, ◌&&◌, ◌||◌, not, if◌then◌else◌, List, [], ◌∷◌, length, get_or, set, take, drop, map, Option, Some, None}
+use Rattle.std.specs.Prelude.{◌≡◌, ◌⊎◌, ℕ, ◌+◌, ◌-◌, ◌≤◌, nat_le, nat_lt, nat_eq, ◌^◌, Bool, ◌&&◌, ◌||◌, not}
+use Rattle.std.specs.Prelude.{if◌then◌else◌, List, [], ◌∷◌, length, get_or, set, take, drop, map, Option, Some, None}
 use Rattle.std.specs.Ordering.{nat_cmp, eq_by_cmp}
 use Rattle.std.specs.List.{list_any}
 use Rattle.std.specs.FinMap.{FinMap, get, from_entries}
@@ -32,7 +33,8 @@ written (Sync a ∷ calls) = written calls
 written (Blank a done ∷ calls) = written calls
 written (OnFiles ∷ calls) = written calls
 
--- an area: what is read, what was there at the last sync, and the writes (offset and length) and failed blanks since, the newest first
+-- an area: what is read, what was there at the last sync, and the writes (offset and length) and failed blanks since,
+-- the newest first
 pub record AreaDisk : Type 0 where
   pub bytes : List ℕ
   pub base : List ℕ
@@ -51,14 +53,16 @@ area_in areas a = get_or areas a (at_rest [])
 abbrev pub area_disk : Disk → ℕ → AreaDisk
 area_disk disk a = area_in disk.areas a
 
--- What a crash may leave of an area: any bytes in the range of each write since the last sync, a write that failed among them, and past the
+-- What a crash may leave of an area: any bytes in the range of each write since the last sync, a write that failed
+-- among them, and past the
 -- old end; where a blank failed, also the one byte 0.
 abbrev pub Reaches : List ℕ → List (Option (ℕ × ℕ)) → List ℕ → Type 0
 Reaches base [] c = c ≡ base
 Reaches base (Some write ∷ earlier) c = (d : List ℕ) × Reaches base earlier d × Torn write.0 write.1 d c
 Reaches base (None ∷ earlier) c = (c ≡ 0 ∷ []) ⊎ Reaches base earlier c
 
--- a crash may leave this image: an adopted file keeps its bytes, and every other number may hold any that aren't too many
+-- a crash may leave this image: an adopted file keeps its bytes, and every other number may hold any that aren't too
+-- many
 pub record IsImage (disk : Disk) (image : Image) : Type 0 where
   pub three : length image.areas ≡ 3
   pub areas : (a : ℕ) → Reaches (area_disk disk a).base (area_disk disk a).steps (area_of image a)
@@ -108,18 +112,27 @@ abbrev pub entries_at : ℕ → List File → List (ℕ × List ℕ)
 entries_at k [] = []
 entries_at k (f ∷ files) = if stands_at k f then (f.number, f.bytes) ∷ entries_at k files else entries_at k files
 
--- what is kept: the areas as they were at first, the calls since, and each file that was adopted, with the calls between which it stood
+-- what is kept: the areas as they were at first, the calls since, and each file that was adopted, with the calls
+-- between which it stood
 pub record Held : Type 0 where
   pub start : List (List ℕ)
   pub deeds : List Deed
   pub files : List File
 
 abbrev pub disk_now : Held → Disk
-disk_now held = record { areas = replay (map at_rest held.start) held.deeds; files = from_entries (entries_at (length held.deeds) held.files) }
+disk_now held = record {
+  areas = replay (map at_rest held.start) held.deeds;
+  files = from_entries (entries_at
+      (length held.deeds) held.files);
+}
 
 -- after some number of calls
 abbrev pub disk_at : Held → ℕ → Disk
-disk_at held k = record { areas = replay (map at_rest held.start) (take k held.deeds); files = from_entries (entries_at k held.files) }
+disk_at held k = record {
+  areas = replay (map at_rest held.start) (take k held.deeds);
+  files = from_entries
+      (entries_at k held.files);
+}
 
 abbrev pub bytes_of : AreaDisk → List ℕ
 bytes_of d = d.bytes

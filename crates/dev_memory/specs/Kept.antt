@@ -2,7 +2,8 @@
 use Rattle.std.specs.Prelude.{◌≡◌, ℕ, ◌+◌, ◌≤◌, Bool, true, List, [], ◌∷◌, ◌++◌, length, map}
 use Rattle.std.specs.List.{list_all}
 use Rattle.dev_memory.specs.Areas.{AreaView, bytes_in, has_room}
-use Rattle.dev_memory.specs.Disk.{Held, Deed, ChangedFiles, closed, deeds, written, bytes_of, disk_now, settled_by, is_short, never}
+use Rattle.dev_memory.specs.Disk.{Held, Deed, ChangedFiles, closed, deeds, written, bytes_of, disk_now, settled_by}
+use Rattle.dev_memory.specs.Disk.{is_short, never}
 use Rattle.dev_memory.specs.declared.call.Call.{Call}
 use Rattle.dev_memory.specs.declared.call.File.{File}
 
@@ -32,7 +33,8 @@ pub record IsValid (h : Held) : Type 0 where
   pub settled : list_all (settled_by (length h.deeds)) h.files ≡ true
 
 -- the parts fit each other, and there is room for what is spare
-pub record IsKept (start : List (List ℕ)) (areas : List AreaView) (calls : List Call) (pieces : List ℕ) (files : List File) (calls_room files_room pieces_room spare_calls spare_bytes : ℕ) : Type 0 where
+pub record IsKept (start : List (List ℕ)) (areas : List AreaView) (calls : List Call) (pieces : List ℕ)
+    (files : List File) (calls_room files_room pieces_room spare_calls spare_bytes : ℕ) : Type 0 where
   pub valid : IsValid (held start pieces calls files)
   pub reads : map bytes_in areas ≡ map bytes_of (disk_now (held start pieces calls files)).areas
   pub fits : written calls ≡ length pieces

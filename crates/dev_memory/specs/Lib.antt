@@ -11,4 +11,5 @@ pub mod Sinks
 pub mod Spoils
 pub mod Store
 pub mod Strikes
+pub mod Texts
 pub mod Told

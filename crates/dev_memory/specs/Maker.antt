@@ -54,7 +54,7 @@ pub record FailsOnly {T : Type 0} (Cause : Type 0) (old new : MemMaker) (result 
   pub only : IsErrOf result Failed → IsNextStruck old ⊎ Cause
 
 -- the file under way is as it was
-pub record SameFile (old new : MemMaker) : Type 0 where
+pub record SameUnderWay (old new : MemMaker) : Type 0 where
   pub made : new.bytes.items ≡ old.bytes.items
   pub started : new.is_started ≡ old.is_started
 

@@ -1,21 +1,20 @@
 ghost use Rattle.std.specs.Prelude.{◌≡◌, ◌+◌, ◌-◌, ◌^◌, ◌<◌, ◌≤◌, ◌∷◌, [], length, OnOk, IfOk, IsTrue, IsFalse};
 ghost use Rattle.dev_traits.specs.Image.{overwritten};
 
-use dev_traits::Memory;
+use dev_traits::{LONGEST, Memory};
 use std::alloc::{AllocError, Global};
 use std::marker::Model;
-
-const MOST: u64 = 1 << 44;
 
 /// Whether an area that a piece is written to is short enough then.
 pub fn is_within(at: u64, piece: &[u8]) -> bool
     ensures within { IsTrue result → at + length piece.now ≤ 2 ^ 44 }
     ensures past { IsFalse result → 2 ^ 44 < at + length piece.now }
 {
-    at <= MOST && piece.len() as u64 <= MOST - at
+    at <= LONGEST && piece.len() as u64 <= LONGEST - at
 }
 
-/// An area of a store, with room to grow, of at most 2^44 bytes. Contracts see its bytes and how many more it has room for.
+/// An area of a store, with room to grow, of at most 2^44 bytes. Contracts see its bytes and how many more it has
+/// room for.
 #[derive(Drop)]
 pub struct Area {
     bytes: Vec<u8>,

@@ -3,7 +3,8 @@ use crate::SharedBytes;
 /// The number of calls that is never reached.
 pub const NEVER: u64 = u64::MAX;
 
-/// A call that wrote. The bytes of the writes stand one after another in a buffer of their own. Where a call failed, its flag is false.
+/// A call that wrote. The bytes of the writes stand one after another in a buffer of their own. Where a call failed,
+/// its flag is false.
 #[derive(Clone, Copy)]
 pub enum Call {
     /// The area, the offset, the number of bytes.

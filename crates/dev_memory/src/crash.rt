@@ -1,7 +1,9 @@
-ghost use Rattle.std.specs.Prelude.{◌≡◌, ◌+◌, ◌*◌, ◌^◌, ◌<◌, ◌≤◌, ℕ, List, [], ◌∷◌, ◌⊎◌, true, false, length, take, IfOk, OnOk, IsTrue};
+ghost use Rattle.std.specs.Prelude.{◌≡◌, ◌+◌, ◌*◌, ◌^◌, ◌<◌, ◌≤◌, ℕ, List, [], ◌∷◌, ◌⊎◌, true, false, length, take};
+ghost use Rattle.std.specs.Prelude.{IfOk, OnOk, IsTrue};
 ghost use Rattle.dev_traits.specs.Image.{Torn};
 ghost use Rattle.dev_memory.specs.Disk.{AreaDisk, at_rest, can_write, wrote, deeds, written};
-ghost use Rattle.dev_memory.specs.Crash.{size_of, deed_of, is_on, on_area, one_after, one_replay, settles, IsAtRest, IsLeft, Stands, Left};
+ghost use Rattle.dev_memory.specs.Crash.{size_of, deed_of, is_on, on_area, one_after, one_replay, settles, IsAtRest};
+ghost use Rattle.dev_memory.specs.Crash.{IsLeft, Remains, Left};
 
 use crate::area::{Area, is_within};
 use crate::call::Call;
@@ -137,7 +139,8 @@ fn may_write(at: u64, piece: &[u8], bytes: &[u8]) -> bool
 
 // A write, as it reads after it.
 fn read_write(bytes: &mut Area, at: u64, piece: &[u8], done: bool) -> Result<(), Memory>
-    ensures { OnOk result ((d : AreaDisk) → d.bytes ≡ bytes.old.bytes → (wrote at piece.now done d).bytes ≡ bytes.new.bytes) }
+    ensures { OnOk result ((d : AreaDisk) → d.bytes ≡ bytes.old.bytes
+        → (wrote at piece.now done d).bytes ≡ bytes.new.bytes) }
 {
     if !done || !may_write(at, piece, bytes.as_slice()) {
         return Ok(());
@@ -147,7 +150,8 @@ fn read_write(bytes: &mut Area, at: u64, piece: &[u8], done: bool) -> Result<(),
 
 // A call on the area, as it reads after it.
 fn read_own(bytes: &mut Area, call: &Call, piece: &[u8]) -> Result<(), Memory>
-    ensures { OnOk result ((d : AreaDisk) → d.bytes ≡ bytes.old.bytes → (on_area (deed_of piece.now call.now) d).bytes ≡ bytes.new.bytes) }
+    ensures { OnOk result ((d : AreaDisk) → d.bytes ≡ bytes.old.bytes
+        → (on_area (deed_of piece.now call.now) d).bytes ≡ bytes.new.bytes) }
 {
     match *call {
         Call::Write(_, at, _, done) => read_write(bytes, at, piece, done),
@@ -172,7 +176,8 @@ fn is_own(call: &Call, area: u32) -> bool
 
 // A call, of whatever area, as an area reads after it.
 fn read_on(bytes: &mut Area, call: &Call, area: u32, piece: &[u8]) -> Result<(), Memory>
-    ensures { OnOk result ((d : AreaDisk) → d.bytes ≡ bytes.old.bytes → (one_after area (deed_of piece.now call.now) d).bytes ≡ bytes.new.bytes) }
+    ensures { OnOk result ((d : AreaDisk) → d.bytes ≡ bytes.old.bytes
+        → (one_after area (deed_of piece.now call.now) d).bytes ≡ bytes.new.bytes) }
 {
     if !is_own(call, area) {
         return Ok(());
@@ -190,7 +195,8 @@ fn leave_write(
     done: bool,
     trace: Trace,
 ) -> Result<(), Memory>
-    ensures torn { OnOk result (can_write at (length piece.now) bytes.now.bytes ≡ true → Torn at (length piece.now) left.old.bytes left.new.bytes) }
+    ensures torn { OnOk result (can_write at (length piece.now) bytes.now.bytes ≡ true
+        → Torn at (length piece.now) left.old.bytes left.new.bytes) }
     ensures same { can_write at (length piece.now) bytes.now.bytes ≡ false → left.new.bytes ≡ left.old.bytes }
     ensures lost { trace ≡ Trace.Lost → left.new.bytes ≡ left.old.bytes }
 {
@@ -219,8 +225,10 @@ fn leave_own(
     piece: &[u8],
     trace: Trace,
 ) -> Result<(), Memory>
-    ensures reaches { OnOk result ((d : AreaDisk) → d.bytes ≡ bytes.now.bytes → IsLeft d left.old.bytes → IsLeft (on_area (deed_of piece.now call.now) d) left.new.bytes) }
-    ensures lost { OnOk result ((d : AreaDisk) → d.bytes ≡ bytes.now.bytes → trace ≡ Trace.Lost → left.old.bytes ≡ d.base → left.new.bytes ≡ (on_area (deed_of piece.now call.now) d).base) }
+    ensures reaches { OnOk result ((d : AreaDisk) → d.bytes ≡ bytes.now.bytes → IsLeft d left.old.bytes
+        → IsLeft (on_area (deed_of piece.now call.now) d) left.new.bytes) }
+    ensures lost { OnOk result ((d : AreaDisk) → d.bytes ≡ bytes.now.bytes → trace ≡ Trace.Lost
+        → left.old.bytes ≡ d.base → left.new.bytes ≡ (on_area (deed_of piece.now call.now) d).base) }
 {
     match *call {
         Call::Write(_, at, _, done) => leave_write(alloc, left, bytes, at, piece, done, trace),
@@ -252,7 +260,8 @@ fn leave_on(
     number: usize,
 ) -> Result<(), Memory>
     requires { area < 3 }
-    ensures { OnOk result ((d : AreaDisk) → Stands pick d bytes.old.bytes left.old.bytes → Stands pick (one_after area (deed_of piece.now call.now) d) bytes.new.bytes left.new.bytes) }
+    ensures { OnOk result ((d : AreaDisk) → Remains pick d bytes.old.bytes left.old.bytes
+        → Remains pick (one_after area (deed_of piece.now call.now) d) bytes.new.bytes left.new.bytes) }
 {
     if !is_own(call, area) {
         return Ok(());
@@ -286,7 +295,8 @@ fn does_settle(call: &Call, area: u32) -> bool
 // How many calls there are up to the last one after which the area was at rest.
 fn last_rest(calls: &[Call], area: u32) -> usize
     ensures within { result ≤ length calls.now }
-    ensures rests { (pieces : List ℕ) (d : AreaDisk) → IsAtRest d → IsAtRest (one_replay area (deeds pieces (take result calls.now)) d) }
+    ensures rests { (pieces : List ℕ) (d : AreaDisk) → IsAtRest d
+        → IsAtRest (one_replay area (deeds pieces (take result calls.now)) d) }
 {
     let mut count = 0;
     for i in 0..calls.len() {
@@ -302,7 +312,8 @@ fn last_rest(calls: &[Call], area: u32) -> usize
 fn replay(bytes: &mut Area, calls: &[Call], pieces: &[u8], area: u32) -> Result<usize, Memory>
     requires { written calls.now ≤ length pieces.now }
     ensures size { IfOk result (λ size. size ≡ written calls.now) }
-    ensures reads { OnOk result ((d : AreaDisk) → d.bytes ≡ bytes.old.bytes → (one_replay area (deeds pieces.now calls.now) d).bytes ≡ bytes.new.bytes) }
+    ensures reads { OnOk result ((d : AreaDisk) → d.bytes ≡ bytes.old.bytes
+        → (one_replay area (deeds pieces.now calls.now) d).bytes ≡ bytes.new.bytes) }
 {
     let mut at = 0;
     for i in 0..calls.len() {
@@ -326,7 +337,8 @@ fn leave_all(
 ) -> Result<(), Memory>
     requires fits { written calls.now ≤ length pieces.now }
     requires there { area < 3 }
-    ensures { OnOk result ((d : AreaDisk) → Stands pick d bytes.old.bytes left.old.bytes → Stands pick (one_replay area (deeds pieces.now calls.now) d) bytes.new.bytes left.new.bytes) }
+    ensures { OnOk result ((d : AreaDisk) → Remains pick d bytes.old.bytes left.old.bytes
+        → Remains pick (one_replay area (deeds pieces.now calls.now) d) bytes.new.bytes left.new.bytes) }
 {
     let mut at = 0;
     for i in 0..calls.len() {
@@ -351,7 +363,8 @@ pub fn area_left(
     requires there { area < 3 }
     requires crash { 1 ≤ pick }
     requires short { length start.now ≤ 2 ^ 44 }
-    ensures left { IfOk result (λ left. Left pick (one_replay area (deeds pieces.now calls.now) (at_rest start.now)) left) }
+    ensures left { IfOk result (λ left. Left pick (one_replay area (deeds pieces.now calls.now)
+        (at_rest start.now)) left) }
     ensures short { IfOk result (λ left. length left ≤ 2 ^ 44) }
 {
     let (early, late) = calls.split_at(last_rest(calls, area));

@@ -1,24 +1,35 @@
-ghost use Rattle.std.specs.Prelude.{◌≡◌, ◌+◌, ◌-◌, ◌^◌, ◌<◌, ◌≤◌, ◌↔◌, [], ◌∷◌, ◌++◌, option_map, Some, IfOk, take, drop, length, Contains, min};
+ghost use Rattle.std.specs.Prelude.{◌≡◌, ◌+◌, ◌-◌, ◌^◌, ◌<◌, ◌≤◌, ◌↔◌, [], ◌∷◌, ◌++◌, option_map, Some, IfOk, IfSome};
+ghost use Rattle.std.specs.Prelude.{take, drop, length, Contains, min};
+ghost use Rattle.std.specs.Arc.{arc_value};
 ghost use Rattle.std.specs.Ordering.{nat_cmp};
 ghost use Rattle.std.specs.Cmp.Lexicographic.{slice_cmp};
 ghost use Rattle.std.specs.FinMap.Entries.{find};
 ghost use Rattle.dev_traits.specs.Streams.{Asks, AskCause, Takes, TakeWithin, TakeCause};
 ghost use Rattle.dev_traits.specs.Causes.{Counts};
+ghost use Rattle.dev_memory.specs.Texts.{text_in};
 
+use crate::faults::Listed;
 use dev_traits::{Asked, Inputs, Source, Taken};
 use pk_values::Octets;
 use std::alloc::{AllocError, Global};
+use std::sync::Arc;
 
-/// A source over bytes in memory, which fails at the takes that its inputs list. Its own takes are numbered on from those before it.
+/// A source over bytes in memory, which fails at the takes that its inputs list. Its own takes are numbered on from
+/// those before it.
 #[derive(Drop)]
 pub struct MemSource {
-    bytes: Vec<u8>,
+    files: Named,
+    place: usize,
     at: usize,
-    fails: Vec<u64>,
+    fails: Listed,
     takes_before: u64,
     takes: u64,
     faults: u64,
+    ghost there: { place < length (arc_value files).items },
 }
+
+// Files with their names, which inputs and their sources share.
+type Named = Arc<Vec<(Octets, Octets)>, Global>;
 
 // Copies what fits of a text into a buffer, and tells how much.
 fn fill(into: &mut [u8], text: &[u8]) -> usize
@@ -52,22 +63,25 @@ impl Source for MemSource {
             self.faults = self.faults.saturating_add(1);
             return Taken::Failed;
         }
-        if self.at >= self.bytes.len() {
+        let text = text_at(&self.files, self.place);
+        if self.at >= text.len() {
             return Taken::End;
         }
-        let size = fill(into, &self.bytes[self.at..]);
+        let size = fill(into, &text[self.at..]);
         self.at += size;
         Taken::Bytes(size)
     }
 }
 
-/// Inputs in memory: of each name the first file listed with it. They fail at the listed takes, and each ask fails where 0 is listed.
+/// Inputs in memory: of each name the first file listed with it. They fail at the listed takes, and each ask fails
+/// where 0 is listed.
 ///
-/// Takes are numbered from 1. Those of a source are numbered on from all takes of the sources that were given back before it was asked for.
+/// Takes are numbered from 1. Those of a source are numbered on from all takes of the sources that were given back
+/// before it was asked for.
 #[derive(Drop)]
 pub struct MemInputs {
-    files: Vec<(Octets, Octets)>,
-    fails: Vec<u64>,
+    files: Named,
+    fails: Listed,
     takes: u64,
     faults: u64,
 }
@@ -77,53 +91,80 @@ impl MemInputs {
     ghost use Rattle.dev_memory.specs.Inputs.{files_of, faults_of, takes_of, fails_of};
 
     /// Inputs of which none was asked for.
-    pub fn new(files: Vec<(Octets, Octets)>, fails: Vec<u64>) -> MemInputs
-        ensures files { files_of result ≡ from_entries files.items }
-        ensures listed { fails_of result ≡ fails.items }
-        ensures first { takes_of result ≡ 0 }
-        ensures no_fault { faults_of result ≡ 0 }
+    pub fn new(
+        alloc: Global,
+        files: Vec<(Octets, Octets)>,
+        fails: Vec<u64>,
+    ) -> Result<MemInputs, AllocError>
+        ensures files { IfOk result (λ inputs. files_of inputs ≡ from_entries files.items) }
+        ensures listed { IfOk result (λ inputs. fails_of inputs ≡ fails.items) }
+        ensures first { IfOk result (λ inputs. takes_of inputs ≡ 0) }
+        ensures no_fault { IfOk result (λ inputs. faults_of inputs ≡ 0) }
     {
-        MemInputs {
-            files,
-            fails,
+        Ok(MemInputs {
+            files: Arc::new(alloc, files)?,
+            fails: Arc::new(alloc, fails)?,
             takes: 0,
             faults: 0,
-        }
+        })
     }
 }
 
-// The bytes of the first file with a name.
-fn find_file<'a>(files: &'a [(Octets, Octets)], name: &[u8]) -> Option<&'a [u8]>
-    ensures { option_map (λ b. b.now) result ≡ find (slice_cmp nat_cmp) name.now files.now }
+// The place of the first file with a name.
+fn find_file(files: &[(Octets, Octets)], name: &[u8]) -> Option<usize>
+    ensures found { option_map (text_in files.now) result ≡ find (slice_cmp nat_cmp) name.now files.now }
+    ensures there { IfSome result (λ place. place < length files.now) }
 {
     for i in 0..files.len() {
-        let entry = &files[i];
-        if entry.0.as_slice() == name {
-            return Some(entry.1.as_slice());
+        if files[i].0.as_slice() == name {
+            return Some(i);
         }
     }
     None
 }
 
-fn open(alloc: Global, bytes: &[u8], fails: &[u64], takes: u64) -> Result<MemSource, AllocError>
-    ensures left { IfOk result (λ src. (src.bytes.items ≡ bytes.now) × (src.at ≡ 0) × (src.faults ≡ 0)) }
-    ensures fails { IfOk result (λ src. src.fails.items ≡ fails.now) }
-    ensures numbered { IfOk result (λ src. (src.takes_before ≡ takes) × (src.takes ≡ 0)) }
+// The bytes of the file at a place.
+fn text_at(files: &[(Octets, Octets)], place: usize) -> &[u8]
+    requires { place < length files.now }
+    ensures { result.now ≡ text_in files.now place }
 {
-    Ok(MemSource {
-        bytes: Vec::from_slice(alloc, bytes)?,
-        at: 0,
-        fails: Vec::from_slice(alloc, fails)?,
-        takes_before: takes,
-        takes: 0,
-        faults: 0,
-    })
+    files[place].1.as_slice()
+}
+
+impl MemSource {
+    ghost use Rattle.dev_memory.specs.Inputs.{left_of, source_before, source_fails, source_faults, source_takes};
+
+    // A source of the file at a place, which shares the files and the list.
+    pub(crate) fn open(
+        files: &Named,
+        place: usize,
+        fails: &Listed,
+        takes: u64,
+    ) -> Result<MemSource, AllocError>
+        requires { place < length (arc_value files.now).items }
+        ensures left { IfOk result (λ src. left_of src ≡ text_in (arc_value files.now).items place) }
+        ensures new { IfOk result (λ src. source_faults src ≡ 0) }
+        ensures fails { IfOk result (λ src. source_fails src ≡ (arc_value fails.now).items) }
+        ensures numbered { IfOk result (λ src. (source_before src ≡ takes) × (source_takes src ≡ 0)) }
+    {
+        let files = Arc::try_clone(files)?;
+        let fails = Arc::try_clone(fails)?;
+        Ok(MemSource {
+            files,
+            place,
+            at: 0,
+            fails,
+            takes_before: takes,
+            takes: 0,
+            faults: 0,
+        })
+    }
 }
 
 impl Inputs for MemInputs {
-    ghost use Rattle.std.specs.Prelude.{Some, IsSome};
-    ghost use Rattle.std.specs.FinMap.{get};
-    ghost use Rattle.dev_memory.specs.Inputs.{files_of, faults_of, takes_of, fails_of, left_of, source_faults, source_takes, NumberedOn};
+    ghost use Rattle.std.specs.Prelude.{Some};
+    ghost use Rattle.dev_memory.specs.Inputs.{files_of, faults_of, takes_of, fails_of, left_of, source_faults};
+    ghost use Rattle.dev_memory.specs.Inputs.{source_takes, NumberedOn};
 
     type Src = MemSource;
 
@@ -131,7 +172,7 @@ impl Inputs for MemInputs {
 
     ghost faults = { faults_of };
 
-    fn ask(&mut self, alloc: Global, name: &str) -> Asked<MemSource>
+    fn ask(&mut self, _alloc: Global, name: &str) -> Asked<MemSource>
         ensures same { files_of self.new ≡ files_of self.old }
         ensures found { Asks (λ src. Some (left_of src)) source_faults (Some (files_of self.old)) name.now result }
         ensures cause { AskCause (faults_of self.old) (faults_of self.new) result }
@@ -145,7 +186,7 @@ impl Inputs for MemInputs {
             return Asked::Failed;
         }
         match find_file(&self.files, name.as_bytes()) {
-            Some(bytes) => match open(alloc, bytes, &self.fails, self.takes) {
+            Some(place) => match MemSource::open(&self.files, place, &self.fails, self.takes) {
                 Ok(src) => Asked::Got(src),
                 Err(_) => Asked::Memory,
             },

@@ -1,17 +1,21 @@
-ghost use Rattle.std.specs.Prelude.{◌≡◌, ◌+◌, ◌^◌, ◌≤◌, ◌<◌, ◌++◌, ◌∷◌, [], ℕ, true, false, nat_eq, ◌&&◌, map, length, option_map, vec_len, vec_capacity, OnOk, OnErr, IfOk, IsFalse, MatchBool};
+ghost use Rattle.std.specs.Prelude.{◌≡◌, ◌+◌, ◌^◌, ◌≤◌, ◌<◌, ◌++◌, ◌∷◌, [], ℕ, true, false, nat_eq, ◌&&◌, map};
+ghost use Rattle.std.specs.Prelude.{length, option_map, vec_len, vec_capacity, OnOk, OnErr, IfOk, IsFalse, MatchBool};
 ghost use Rattle.dev_memory.specs.Spoils.{ChangesFile, ChangesOne, HasNoByte, Spoils};
 ghost use Rattle.std.specs.FinMap.{get};
 ghost use Rattle.std.specs.Ordering.{nat_cmp};
 ghost use Rattle.std.specs.List.{list_all};
+ghost use Rattle.std.specs.List.Sorted.{IsStrictlyIncreasing};
 ghost use Rattle.std.specs.FinMap.Entries.{find};
 ghost use Rattle.dev_traits.specs.Image.{area_of};
 ghost use Rattle.dev_memory.specs.Areas.{bytes_in, has_room};
-ghost use Rattle.dev_memory.specs.Disk.{Wrote, Synced, Blanked, ChangedFiles, disk_now, read_of, entries_at, stands_at, is_in, closed, never, settled_by, is_short};
+ghost use Rattle.dev_memory.specs.Disk.{Wrote, Synced, Blanked, ChangedFiles, disk_now, read_of, entries_at};
+ghost use Rattle.dev_memory.specs.Disk.{stands_at, is_in, closed, never, settled_by, is_short};
 ghost use Rattle.dev_memory.specs.Images.{is_short_file, IsShort};
 
 use crate::area::Area;
 use crate::call::{Call, File, NEVER};
 use crate::crash::area_left;
+use crate::image::{append, three};
 use crate::left_files::files_left;
 use crate::{Image, SharedBytes};
 use dev_traits::Memory;
@@ -19,8 +23,8 @@ use pk_values::Octets;
 use std::alloc::Global;
 use std::marker::Model;
 
-/// What a store keeps: its areas as they were at first and as they read, each call that wrote, and the files. Contracts see the calls since
-/// the first, as deeds, and for how many more calls and bytes there is memory.
+/// What a store keeps: its areas as they were at first and as they read, each call that wrote, and the files.
+/// Contracts see the calls since the first, as deeds, and for how many more calls and bytes there is memory.
 #[derive(Drop)]
 pub struct Kept {
     start: Vec<Octets>,
@@ -38,10 +42,16 @@ impl Model for Kept {
 
     ghost Value = { KeptView };
 
-    ghost view = { λ k. record { held = held k.start.items k.pieces.items k.calls.items k.files.items; spare_calls = k.spare_calls; spare_bytes = k.spare_bytes } };
+    ghost view = { λ k. record {
+      held = held k.start.items k.pieces.items k.calls.items k.files.items;
+      spare_calls =
+          k.spare_calls;
+      spare_bytes = k.spare_bytes;
+    } };
 
     ghost invariant = { λ k. IsKept k.start.items k.areas.items k.calls.items k.pieces.items k.files.items
-        (vec_capacity k.calls - vec_len k.calls) (vec_capacity k.files - vec_len k.files) (vec_capacity k.pieces - vec_len k.pieces) k.spare_calls k.spare_bytes };
+        (vec_capacity k.calls - vec_len k.calls) (vec_capacity k.files - vec_len k.files)
+        (vec_capacity k.pieces - vec_len k.pieces) k.spare_calls k.spare_bytes };
 }
 
 // Whether a file stood adopted after so many calls.
@@ -70,13 +80,16 @@ fn find_file(files: &[File], number: u64, calls: u64) -> Option<&SharedBytes>
     None
 }
 
+// Whether a number is in a rising list.
 fn is_listed(list: &[u64], number: u64) -> bool
+    requires { IsStrictlyIncreasing list.now }
     ensures { result ≡ is_in list.now number }
 {
-    list.contains(&number)
+    list.binary_search(&number).is_ok()
 }
 
 fn close(file: &mut File, keep: &[u64], now: u64)
+    requires { IsStrictlyIncreasing keep.now }
     ensures { file.new ≡ closed keep.now now file.old }
 {
     if file.until == NEVER && !is_listed(keep, file.number) {
@@ -84,8 +97,9 @@ fn close(file: &mut File, keep: &[u64], now: u64)
     }
 }
 
-// Ends each file outside a list by the call of a number.
+// Ends each file outside a rising list by the call of a number.
 fn close_others(files: &mut [File], keep: &[u64], now: u64)
+    requires { IsStrictlyIncreasing keep.now }
     ensures { files.new ≡ map (closed keep.now now) files.old }
 {
     for i in 0..files.len() {
@@ -95,7 +109,8 @@ fn close_others(files: &mut [File], keep: &[u64], now: u64)
 
 // Changes a byte of a file, and tells whether it has one there.
 fn change(alloc: Global, file: &mut File, at: u64, byte: u8) -> Result<bool, Memory>
-    ensures changed { IfOk result (λ changed. MatchBool changed (ChangesFile at byte file.old file.new) (length file.old.bytes ≤ at)) }
+    ensures changed { IfOk result (λ changed. MatchBool changed (ChangesFile at byte file.old file.new)
+        (length file.old.bytes ≤ at)) }
     ensures same { IfOk result (λ changed. IsFalse changed → file.new ≡ file.old) }
     ensures memory { OnErr result (file.new ≡ file.old) }
 {
@@ -115,7 +130,9 @@ fn change_file(
     at: u64,
     byte: u8,
 ) -> Result<bool, Memory>
-    ensures changed { IfOk result (λ changed. MatchBool changed (ChangesOne number calls at byte files.old files.new) (HasNoByte at (find nat_cmp number (entries_at calls files.old)))) }
+    ensures changed { IfOk result (λ changed. MatchBool changed
+        (ChangesOne number calls at byte files.old files.new) (HasNoByte at (find nat_cmp number
+        (entries_at calls files.old)))) }
     ensures same { IfOk result (λ changed. IsFalse changed → files.new ≡ files.old) }
     ensures memory { OnErr result (files.new ≡ files.old) }
 {
@@ -140,16 +157,6 @@ fn reserve_all(areas: &mut [Area], more: usize) -> Result<(), Memory>
     Ok(())
 }
 
-// Puts bytes behind others, where there is room for them.
-fn append(bytes: &mut Vec<u8>, piece: &[u8])
-    requires { vec_len bytes.old + length piece.now ≤ vec_capacity bytes.old }
-    ensures items { bytes.new.items ≡ bytes.old.items ++ piece.now }
-    ensures len { vec_len bytes.new ≡ vec_len bytes.old + length piece.now }
-    ensures capacity { vec_capacity bytes.old ≤ vec_capacity bytes.new }
-{
-    bytes.extend_from_slice(piece).unwrap();
-}
-
 // Areas with these bytes.
 fn areas_of(alloc: Global, start: &[Octets]) -> Result<Vec<Area>, Memory>
     requires { list_all is_short start.now ≡ true }
@@ -161,16 +168,6 @@ fn areas_of(alloc: Global, start: &[Octets]) -> Result<Vec<Area>, Memory>
         areas.push(Area::new(copy)?)?;
     }
     Ok(areas)
-}
-
-fn three(alloc: Global, first: Octets, second: Octets, third: Octets) -> Result<Vec<Octets>, Memory>
-    ensures { IfOk result (λ all. all.items ≡ first ∷ second ∷ third ∷ []) }
-{
-    let mut all = Vec::new(alloc);
-    all.push(first)?;
-    all.push(second)?;
-    all.push(third)?;
-    Ok(all)
 }
 
 impl Kept {
@@ -211,7 +208,8 @@ impl Kept {
 
     /// The bytes of an adopted file.
     pub fn file(&self, number: u64) -> Option<&SharedBytes>
-        ensures { option_map (λ b. b.now) result ≡ find nat_cmp number (entries_at (length self.now.held.deeds) self.now.held.files) }
+        ensures { option_map (λ b. b.now) result ≡ find nat_cmp number (entries_at
+            (length self.now.held.deeds) self.now.held.files) }
     {
         find_file(&self.files, number, self.calls.len() as u64)
     }
@@ -349,7 +347,8 @@ impl Kept {
         requires calls { 1 ≤ self.old.spare_calls }
         requires short { length bytes ≤ 2 ^ 44 }
         ensures valid { IsValid self.new.held }
-        ensures adopted { (f : _) × IsNewFile number bytes (length self.old.held.deeds + 1) f × (self.new.held ≡ with_files (grown self.old.held ChangedFiles) (self.old.held.files ++ f ∷ [])) }
+        ensures adopted { (f : _) × IsNewFile number bytes (length self.old.held.deeds + 1) f
+            × (self.new.held ≡ with_files (grown self.old.held ChangedFiles) (self.old.held.files ++ f ∷ [])) }
         ensures calls { self.old.spare_calls ≡ self.new.spare_calls + 1 }
         ensures bytes { self.old.spare_bytes ≡ self.new.spare_bytes }
     {
@@ -364,12 +363,14 @@ impl Kept {
         self.spare_calls -= 1;
     }
 
-    /// Forgets each file outside a list.
+    /// Forgets each file outside a rising list.
     pub fn forget_others(&mut self, keep: &[u64])
-        requires { 1 ≤ self.old.spare_calls }
+        requires calls { 1 ≤ self.old.spare_calls }
+        requires rising { IsStrictlyIncreasing keep.now }
         ensures valid { IsValid self.new.held }
         ensures short { (length self.old.held.deeds + 1 ≡ never) → ⊥ }
-        ensures forgot { self.new.held ≡ with_files (grown self.old.held ChangedFiles) (map (closed keep.now (length self.old.held.deeds + 1)) self.old.held.files) }
+        ensures forgot { self.new.held ≡ with_files (grown self.old.held ChangedFiles) (map (closed keep.now
+            (length self.old.held.deeds + 1)) self.old.held.files) }
         ensures calls { self.old.spare_calls ≡ self.new.spare_calls + 1 }
         ensures bytes { self.old.spare_bytes ≡ self.new.spare_bytes }
     {
@@ -382,7 +383,8 @@ impl Kept {
     /// Changes a byte of an adopted file, and tells whether there is one.
     pub fn spoil(&mut self, alloc: Global, number: u64, at: u64, byte: u8) -> Result<bool, Memory>
         ensures valid { IsValid self.new.held }
-        ensures spoilt { IfOk result (λ spoilt. MatchBool spoilt (Spoils number at byte (disk_now self.old.held) (disk_now self.new.held)) (HasNoByte at (get (disk_now self.old.held).files number))) }
+        ensures spoilt { IfOk result (λ spoilt. MatchBool spoilt (Spoils number at byte (disk_now self.old.held)
+            (disk_now self.new.held)) (HasNoByte at (get (disk_now self.old.held).files number))) }
         ensures same { IfOk result (λ spoilt. IsFalse spoilt → self.new.held ≡ self.old.held) }
         ensures memory { OnErr result (self.new.held ≡ self.old.held) }
         ensures deeds { self.new.held.deeds ≡ self.old.held.deeds }

@@ -61,7 +61,8 @@ pub fn files_left(
     pick: u64,
 ) -> Result<Vec<(u64, Octets)>, Memory>
     ensures read { pick ≡ 0 → IfOk result (λ left. left.items ≡ entries_at calls files.now) }
-    ensures kept { IfOk result (λ left. (others : List (ℕ × List ℕ)) × (left.items ≡ entries_at calls files.now ++ others)) }
+    ensures kept { IfOk result (λ left. (others : List (ℕ × List ℕ))
+        × (left.items ≡ entries_at calls files.now ++ others)) }
     ensures short { IfOk result (λ left. list_all is_short_file left.items ≡ true) }
 {
     let mut left = standing(alloc, files, calls)?;

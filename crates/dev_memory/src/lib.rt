@@ -2,6 +2,7 @@
 #![tactic(auto)]
 
 mod area;
+mod begun;
 mod call;
 mod crash;
 mod faults;

@@ -5,11 +5,9 @@ ghost use Rattle.dev_traits.specs.Maker.{MakerView};
 
 use crate::faults::{Listed, strikes};
 use crate::{MemReader, SharedBytes};
-use dev_traits::{DevError, FileMaker, Memory};
+use dev_traits::{DevError, FileMaker, LONGEST, Memory};
 use std::alloc::Global;
 use std::mem;
-
-const MOST: usize = 1 << 44;
 
 /// A file that is made, with a first reader, so that adopting it takes no memory.
 #[derive(Drop)]
@@ -67,7 +65,8 @@ impl FileMaker for MemMaker {
     ghost use Rattle.std.specs.Prelude.{◌+◌, ◌<◌, is_some, OnOk, OnErr, IsErrOf, IsFalse};
     ghost use Rattle.std.specs.Option.{option_map};
     ghost use Rattle.dev_traits.specs.Causes.{HasDevCause};
-    ghost use Rattle.dev_memory.specs.Maker.{maker_view, made_len, reader_fails_of, sealed_fails_of, FailsOnly, SameFile, HasNoFile};
+    ghost use Rattle.dev_memory.specs.Maker.{maker_view, made_len, reader_fails_of, sealed_fails_of, FailsOnly};
+    ghost use Rattle.dev_memory.specs.Maker.{SameUnderWay, HasNoFile};
 
     type Sealed = MemSealed;
 
@@ -80,13 +79,14 @@ impl FileMaker for MemMaker {
     }
 
     fn start(&mut self) -> Result<(), DevError>
+        ensures fails { FailsOnly ⊥ self.old self.new result }
+        ensures kept { OnErr result (SameUnderWay self.old self.new) }
+        // As the trait says.
         ensures started { OnOk result (IsTrue (maker_view self.new).is_started) }
         ensures empty { OnOk result ((maker_view self.new).made ≡ option_map (λ _. []) (maker_view self.old).made) }
         ensures tells { is_some (maker_view self.new).made ≡ is_some (maker_view self.old).made }
         ensures never_absent { ¬ IsErrOf result DevError.Absent }
         ensures cause { HasDevCause (maker_view self.old).faults (maker_view self.new).faults result }
-        ensures fails { FailsOnly ⊥ self.old self.new result }
-        ensures kept { OnErr result (SameFile self.old self.new) }
     {
         if strikes(&self.fails, None, &mut self.count, &mut self.faults) {
             return Err(DevError::Failed);
@@ -98,19 +98,21 @@ impl FileMaker for MemMaker {
 
     fn add(&mut self, piece: &[u8]) -> Result<(), DevError>
         requires { IsTrue (maker_view self.old).is_started }
+        ensures fails { FailsOnly (2 ^ 44 < made_len self.old + length piece.now) self.old self.new result }
+        ensures kept { OnErr result (SameUnderWay self.old self.new) }
+        // As the trait says.
         ensures started { OnOk result (IsTrue (maker_view self.new).is_started) }
-        ensures added { OnOk result ((maker_view self.new).made ≡ option_map (λ made. made ++ piece.now) (maker_view self.old).made) }
+        ensures added { OnOk result ((maker_view self.new).made ≡ option_map (λ made. made ++ piece.now)
+            (maker_view self.old).made) }
         ensures bound { OnOk result ((made : List ℕ) → (maker_view self.new).made ≡ Some made → length made ≤ 2 ^ 44) }
         ensures tells { is_some (maker_view self.new).made ≡ is_some (maker_view self.old).made }
         ensures never_absent { ¬ IsErrOf result DevError.Absent }
         ensures cause { HasDevCause (maker_view self.old).faults (maker_view self.new).faults result }
-        ensures fails { FailsOnly (2 ^ 44 < made_len self.old + length piece.now) self.old self.new result }
-        ensures kept { OnErr result (SameFile self.old self.new) }
     {
         if strikes(&self.fails, None, &mut self.count, &mut self.faults) {
             return Err(DevError::Failed);
         }
-        if piece.len() > MOST - self.bytes.len() {
+        if piece.len() as u64 > LONGEST - self.bytes.len() as u64 {
             self.faults = self.faults.saturating_add(1);
             return Err(DevError::Failed);
         }
@@ -122,16 +124,17 @@ impl FileMaker for MemMaker {
 
     fn seal(&mut self) -> Result<MemSealed, DevError>
         requires { IsTrue (maker_view self.old).is_started }
+        ensures fails { FailsOnly ⊥ self.old self.new result }
+        ensures listed { IfOk result (λ sealed. sealed_fails_of sealed ≡ reader_fails_of self.old) }
+        ensures kept { IsErrOf result DevError.Failed → SameUnderWay self.old self.new }
+        ensures dropped { IsErrOf result DevError.Memory → HasNoFile self.new }
+        ensures ended { OnOk result (HasNoFile self.new) }
+        // As the trait says.
         ensures sealed { IfOk result (λ sealed. Some sealed.file ≡ (maker_view self.old).made) }
         ensures closed { OnOk result (IsFalse (maker_view self.new).is_started) }
         ensures tells { is_some (maker_view self.new).made ≡ is_some (maker_view self.old).made }
         ensures never_absent { ¬ IsErrOf result DevError.Absent }
         ensures cause { HasDevCause (maker_view self.old).faults (maker_view self.new).faults result }
-        ensures fails { FailsOnly ⊥ self.old self.new result }
-        ensures listed { IfOk result (λ sealed. sealed_fails_of sealed ≡ reader_fails_of self.old) }
-        ensures kept { IsErrOf result DevError.Failed → SameFile self.old self.new }
-        ensures dropped { IsErrOf result DevError.Memory → HasNoFile self.new }
-        ensures ended { OnOk result (HasNoFile self.new) }
     {
         if strikes(&self.fails, None, &mut self.count, &mut self.faults) {
             return Err(DevError::Failed);

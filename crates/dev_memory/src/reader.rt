@@ -72,11 +72,13 @@ impl SealedReader for MemReader {
 
     fn read_at(&mut self, at: u64, into: &mut [u8]) -> Result<(), Failed>
         requires { at + length into.old ≤ (reader_view self.old).size }
-        ensures bytes { OnOk result ((bytes : List ℕ) → (reader_view self.old).bytes ≡ Some bytes → into.new ≡ take (length into.old) (drop at bytes)) }
+        ensures fails { FailsAsListed self.old self.new result }
+        // As the trait says.
+        ensures bytes { OnOk result ((bytes : List ℕ) → (reader_view self.old).bytes ≡ Some bytes
+            → into.new ≡ take (length into.old) (drop at bytes)) }
         ensures same { SameFile (reader_view self.old) (reader_view self.new) }
         ensures reads { (reader_view self.new).reads ≡ min ((reader_view self.old).reads + 1) (2 ^ 64 - 1) }
         ensures cause { HasCause (reader_view self.old).faults (reader_view self.new).faults result }
-        ensures fails { FailsAsListed self.old self.new result }
     {
         self.reads = self.reads.saturating_add(1);
         if strikes(&self.fails, None, &mut self.count, &mut self.faults) {
@@ -89,14 +91,16 @@ impl SealedReader for MemReader {
     }
 
     fn another(&mut self) -> Result<Self, Memory>
+        ensures listed { IfOk result (ListsFrom (fails_of self.old)) }
+        ensures as_listed { Uncounted self.old self.new }
+        // As the trait says.
         ensures new { IfOk result (λ other. IsNew (reader_view other)) }
         ensures file { IfOk result (λ other. SameFile (reader_view self.old) (reader_view other)) }
         ensures same { SameFile (reader_view self.old) (reader_view self.new) }
-        ensures counted { OnOk result ((reader_view self.new).reads ≡ min ((reader_view self.old).reads + 1) (2 ^ 64 - 1)) }
+        ensures counted { OnOk result ((reader_view self.new).reads ≡ min ((reader_view self.old).reads + 1)
+            (2 ^ 64 - 1)) }
         ensures uncounted { OnErr result ((reader_view self.new).reads ≡ (reader_view self.old).reads) }
         ensures faults { (reader_view self.new).faults ≡ (reader_view self.old).faults }
-        ensures listed { IfOk result (ListsFrom (fails_of self.old)) }
-        ensures as_listed { Uncounted self.old self.new }
     {
         let file = self.file.another()?;
         let fails = Arc::try_clone(&self.fails)?;

@@ -51,7 +51,8 @@ impl SharedBytes {
         self.bytes.as_slice()
     }
 
-    /// Changes a byte for this owner alone, in a copy of the bytes. It answers `Memory`, and changes nothing, where there is none for the copy.
+    /// Changes a byte for this owner alone, in a copy of the bytes. It answers `Memory`, and changes nothing, where
+    /// there is none for the copy.
     pub fn change(&mut self, alloc: Global, at: usize, byte: u8) -> Result<(), Memory>
         requires { at < length self.old }
         ensures done { OnOk result (self.new ≡ slice_set self.old at byte) }

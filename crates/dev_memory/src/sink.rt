@@ -4,7 +4,8 @@ ghost use Rattle.dev_traits.specs.Streams.{PutWithin, PutCause};
 use dev_traits::{Put, Sink};
 use std::alloc::Global;
 
-/// A sink that keeps what is put into it, at most so many bytes at a time, and fails at the listed puts, counted from 1.
+/// A sink that keeps what is put into it, at most so many bytes at a time, and fails at the listed puts, counted from
+/// 1.
 ///
 /// A put for which memory is wanting fails, too.
 #[derive(Drop)]

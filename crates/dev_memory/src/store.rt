@@ -1,39 +1,37 @@
-ghost use Rattle.std.specs.Prelude.{◌≡◌, ◌^◌, ◌+◌, ◌≤◌, ◌<◌, None, true, length, map, take, drop, IfOk, IsErrOf, IsSome, OnErr, IsFalse, refl};
+ghost use Rattle.std.specs.Prelude.{◌≡◌, ◌^◌, ◌+◌, ◌≤◌, ◌<◌, None, true, length, map, take, drop, IfOk, IsErrOf};
+ghost use Rattle.std.specs.Prelude.{IsSome, OnErr, IsFalse, refl};
 ghost use Rattle.std.specs.Ordering.{nat_cmp};
 ghost use Rattle.std.specs.FinMap.Entries.{find};
-ghost use Rattle.std.specs.List.{list_all};
 ghost use Rattle.dev_traits.specs.Causes.{Counts};
-ghost use Rattle.dev_memory.specs.Laws.{counts, only, read_is_image, files_kept, empty_kept, three_read, short_now, short_since, short_read};
+ghost use Rattle.dev_memory.specs.Laws.{counts, only, read_is_image, files_kept, empty_kept, three_read, short_now};
+ghost use Rattle.dev_memory.specs.Laws.{short_since, short_read};
 ghost use Rattle.dev_memory.specs.Disk.{disk_now, read_of, entries_at};
-ghost use Rattle.dev_memory.specs.Images.{is_short_file};
-ghost use Rattle.dev_memory.specs.Kept.{IsValid, first_file};
+ghost use Rattle.dev_memory.specs.Kept.{IsValid};
 ghost use Rattle.dev_memory.specs.Reader as made;
 ghost use Rattle.dev_memory.specs.Reader.{Opens};
 ghost use Rattle.std.specs.Arc.{arc_value};
 
 use crate::area::is_within;
-use crate::call::{File, NEVER};
 use crate::faults::{Listed, strikes};
 use crate::kept::Kept;
-use crate::{Faults, Image, MemMaker, MemReader, MemSealed, SharedBytes};
+use crate::{MemMaker, MemReader, MemSealed};
 use dev_traits::{DevError, Failed, FileMaker, Memory, SealedReader, Store};
-use pk_values::Octets;
-use std::alloc::{AllocError, Global};
+use std::alloc::Global;
 use std::sync::Arc;
 
-/// A store in memory. It fails at the listed calls, and where a write would make an area longer than 2^44 bytes. It keeps a record of each call that
-/// wrote, so that what a crash at any moment might have left can be said.
+/// A store in memory. It fails at the listed calls, and where a write would make an area longer than 2^44 bytes. It
+/// keeps a record of each call that wrote, so that what a crash at any moment might have left can be said.
 #[derive(Drop)]
 pub struct MemStore {
-    alloc: Global,
-    kept: Kept,
-    fails: Vec<u64>,
-    stop: Option<u64>,
-    maker_fails: Listed,
-    reader_fails: Listed,
-    count: u64,
-    faults: u64,
-    is_honest: bool,
+    pub(crate) alloc: Global,
+    pub(crate) kept: Kept,
+    pub(crate) fails: Vec<u64>,
+    pub(crate) stop: Option<u64>,
+    pub(crate) maker_fails: Listed,
+    pub(crate) reader_fails: Listed,
+    pub(crate) count: u64,
+    pub(crate) faults: u64,
+    pub(crate) is_honest: bool,
     ghost valid: { IsValid kept.held },
 }
 
@@ -49,9 +47,11 @@ fn fail(faults: &mut u64) -> Failed
 fn open_number(kept: &Kept, number: u64, fails: &Listed) -> Result<MemReader, DevError>
     ensures found { IfOk result (λ reader. Opens kept.now.held number reader) }
     ensures listed { IfOk result (made.ListsFrom (arc_value fails.now).items) }
-    ensures absent { IsErrOf result DevError.Absent → find nat_cmp number (entries_at (length kept.now.held.deeds) kept.now.held.files) ≡ None }
+    ensures absent { IsErrOf result DevError.Absent → find nat_cmp number (entries_at
+        (length kept.now.held.deeds) kept.now.held.files) ≡ None }
     ensures never_failed { ¬ IsErrOf result DevError.Failed }
-    ensures memory { IsErrOf result DevError.Memory → IsSome (find nat_cmp number (entries_at (length kept.now.held.deeds) kept.now.held.files)) }
+    ensures memory { IsErrOf result DevError.Memory → IsSome (find nat_cmp number (entries_at
+        (length kept.now.held.deeds) kept.now.held.files)) }
 {
     match kept.file(number) {
         None => Err(DevError::Absent),
@@ -74,7 +74,8 @@ impl Store for MemStore {
     ghost use Rattle.std.specs.Prelude.{◌-◌, ◌∷◌, [], min, ℕ, List, true, false, Some, OnOk};
     ghost use Rattle.std.specs.Option.{option_map};
     ghost use Rattle.dev_traits.specs.Causes.{HasCause, HasDevCause};
-    ghost use Rattle.dev_traits.specs.Image.{area_of, file, overwritten, with_area, with_file, with_files_of, Same, TornIn, Blanked, Forgets, ForgetsSome};
+    ghost use Rattle.dev_traits.specs.Image.{area_of, file, overwritten, with_area, with_file, with_files_of, Same};
+    ghost use Rattle.dev_traits.specs.Image.{TornIn, Blanked, Forgets, ForgetsSome};
     ghost use Rattle.std.specs.List.Sorted.{IsStrictlyIncreasing};
     ghost use Rattle.dev_traits.specs.Reader.{IsNew};
     ghost use Rattle.dev_traits.specs.View.{Told, EachImage, Leaves, Calm, Spends, ReadsElsewhere};
@@ -83,7 +84,8 @@ impl Store for MemStore {
     ghost use Rattle.dev_memory.specs.Kept.{grown, Adopts, forgotten};
     ghost use Rattle.dev_memory.specs.Maker.{maker_view, sealed_fails_of, ListsFrom};
     ghost use Rattle.dev_memory.specs.Reader.{reader_view};
-    ghost use Rattle.dev_memory.specs.Store.{view_of, held_of, disk_of, maker_fails_of, reader_fails_of, Counted, Uncounted, IsNextStruck, FailsOnly};
+    ghost use Rattle.dev_memory.specs.Store.{view_of, held_of, disk_of, maker_fails_of, reader_fails_of, Counted};
+    ghost use Rattle.dev_memory.specs.Store.{Uncounted, IsNextStruck, FailsOnly};
 
     type Maker = MemMaker;
 
@@ -116,25 +118,28 @@ impl Store for MemStore {
     }
 
     fn room(&mut self, calls: u64, bytes: u64) -> Result<(), Memory>
-        ensures calls { OnOk result (calls ≤ (view_of self.new).spare_calls) }
-        ensures bytes { OnOk result (bytes ≤ (view_of self.new).spare_bytes) }
-        ensures memory { calls ≤ (view_of self.old).spare_calls → bytes ≤ (view_of self.old).spare_bytes → OnErr result ⊥ }
-        ensures calm { Calm (view_of self.old) (view_of self.new) }
-        ensures faults { (view_of self.new).faults ≡ (view_of self.old).faults }
         ensures kept { held_of self.new ≡ held_of self.old }
         ensures uncounted { Uncounted self.old self.new }
+        // As the trait says.
+        ensures calls { OnOk result (calls ≤ (view_of self.new).spare_calls) }
+        ensures bytes { OnOk result (bytes ≤ (view_of self.new).spare_bytes) }
+        ensures memory { calls ≤ (view_of self.old).spare_calls → bytes ≤ (view_of self.old).spare_bytes
+            → OnErr result ⊥ }
+        ensures calm { Calm (view_of self.old) (view_of self.new) }
+        ensures faults { (view_of self.new).faults ≡ (view_of self.old).faults }
     {
         self.kept.room(calls, bytes)
     }
 
     fn length(&mut self, area: u32) -> Result<u64, Failed>
         requires { area < 3 }
+        ensures kept { held_of self.new ≡ held_of self.old }
+        ensures fails { FailsOnly ⊥ self.old self.new result }
+        // As the trait says.
         ensures length { IfOk result (λ n. Told (view_of self.old) (λ image. n ≡ length (area_of image area))) }
         ensures bound { IfOk result (λ n. n ≤ 2 ^ 44) }
         ensures calm { Calm (view_of self.old) (view_of self.new) }
         ensures cause { HasCause (view_of self.old).faults (view_of self.new).faults result }
-        ensures kept { held_of self.new ≡ held_of self.old }
-        ensures fails { FailsOnly ⊥ self.old self.new result }
     {
         if strikes(&self.fails, self.stop, &mut self.count, &mut self.faults) {
             return Err(Failed);
@@ -145,11 +150,13 @@ impl Store for MemStore {
     fn read(&mut self, area: u32, at: u64, into: &mut [u8]) -> Result<(), Failed>
         requires there { area < 3 }
         requires inside { Told (view_of self.old) (λ image. at + length into.old ≤ length (area_of image area)) }
-        ensures bytes { OnOk result (Told (view_of self.old) (λ image. into.new ≡ take (length into.old) (drop at (area_of image area)))) }
-        ensures calm { Calm (view_of self.old) (view_of self.new) }
-        ensures cause { HasCause (view_of self.old).faults (view_of self.new).faults result }
         ensures kept { held_of self.new ≡ held_of self.old }
         ensures fails { FailsOnly ⊥ self.old self.new result }
+        // As the trait says.
+        ensures bytes { OnOk result (Told (view_of self.old) (λ image. into.new ≡ take (length into.old) (drop at
+            (area_of image area)))) }
+        ensures calm { Calm (view_of self.old) (view_of self.new) }
+        ensures cause { HasCause (view_of self.old).faults (view_of self.new).faults result }
     {
         if strikes(&self.fails, self.stop, &mut self.count, &mut self.faults) {
             return Err(Failed);
@@ -162,17 +169,21 @@ impl Store for MemStore {
         requires there { area < 3 }
         requires calls { 1 ≤ (view_of self.old).spare_calls }
         requires bytes { length piece.now ≤ (view_of self.old).spare_bytes }
-        requires inside { Told (view_of self.old) (λ image. (1 ≤ length (area_of image area)) × (at ≤ length (area_of image area))) }
-        ensures written { OnOk result ((view_of self.new).seen ≡ option_map (λ image. with_area area (overwritten (area_of image area) at piece.now) image) (view_of self.old).seen) }
+        requires inside { Told (view_of self.old) (λ image. (1 ≤ length (area_of image area))
+            × (at ≤ length (area_of image area))) }
+        ensures done { OnOk result (held_of self.new ≡ grown (held_of self.old) (Wrote area at piece.now true)) }
+        ensures undone { OnErr result (at + length piece.now ≤ 2 ^ 44
+            → held_of self.new ≡ grown (held_of self.old) (Wrote area at piece.now false)) }
+        ensures refused { 2 ^ 44 < at + length piece.now → held_of self.new ≡ held_of self.old }
+        ensures fails { FailsOnly (2 ^ 44 < at + length piece.now) self.old self.new result }
+        // As the trait says.
+        ensures written { OnOk result ((view_of self.new).seen ≡ option_map (λ image. with_area area (overwritten
+            (area_of image area) at piece.now) image) (view_of self.old).seen) }
         ensures bound { OnOk result (at + length piece.now ≤ 2 ^ 44) }
         ensures elsewhere { ReadsElsewhere area (view_of self.old) (view_of self.new) }
         ensures spends { Spends 1 (length piece.now) (view_of self.old) (view_of self.new) }
         ensures crash { Leaves (TornIn area at (length piece.now)) (view_of self.old) (view_of self.new) }
         ensures cause { HasCause (view_of self.old).faults (view_of self.new).faults result }
-        ensures done { OnOk result (held_of self.new ≡ grown (held_of self.old) (Wrote area at piece.now true)) }
-        ensures undone { OnErr result (at + length piece.now ≤ 2 ^ 44 → held_of self.new ≡ grown (held_of self.old) (Wrote area at piece.now false)) }
-        ensures refused { 2 ^ 44 < at + length piece.now → held_of self.new ≡ held_of self.old }
-        ensures fails { FailsOnly (2 ^ 44 < at + length piece.now) self.old self.new result }
     {
         let struck = strikes(&self.fails, self.stop, &mut self.count, &mut self.faults);
         match (struck, is_within(at, piece)) {
@@ -192,14 +203,16 @@ impl Store for MemStore {
     fn sync(&mut self, area: u32) -> Result<(), Failed>
         requires there { area < 3 }
         requires calls { 1 ≤ (view_of self.old).spare_calls }
-        ensures seen { (view_of self.new).seen ≡ (view_of self.old).seen }
-        ensures durable { OnOk result (Told (view_of self.new) (λ image. EachImage (view_of self.new) (λ left. area_of left area ≡ area_of image area))) }
-        ensures spends { Spends 1 0 (view_of self.old) (view_of self.new) }
-        ensures crash { Leaves Same (view_of self.old) (view_of self.new) }
-        ensures cause { HasCause (view_of self.old).faults (view_of self.new).faults result }
         ensures done { OnOk result (held_of self.new ≡ grown (held_of self.old) (Synced area)) }
         ensures undone { OnErr result (held_of self.new ≡ held_of self.old) }
         ensures fails { FailsOnly ⊥ self.old self.new result }
+        // As the trait says.
+        ensures seen { (view_of self.new).seen ≡ (view_of self.old).seen }
+        ensures durable { OnOk result (Told (view_of self.new) (λ image. EachImage (view_of self.new)
+            (λ left. area_of left area ≡ area_of image area))) }
+        ensures spends { Spends 1 0 (view_of self.old) (view_of self.new) }
+        ensures crash { Leaves Same (view_of self.old) (view_of self.new) }
+        ensures cause { HasCause (view_of self.old).faults (view_of self.new).faults result }
     {
         if strikes(&self.fails, self.stop, &mut self.count, &mut self.faults) {
             return Err(Failed);
@@ -211,15 +224,17 @@ impl Store for MemStore {
     fn blank(&mut self, area: u32) -> Result<(), Failed>
         requires there { area < 3 }
         requires calls { 1 ≤ (view_of self.old).spare_calls }
-        ensures blank { OnOk result ((view_of self.new).seen ≡ option_map (with_area area (0 ∷ [])) (view_of self.old).seen) }
+        ensures done { OnOk result (held_of self.new ≡ grown (held_of self.old) (disk.Blanked area true)) }
+        ensures undone { OnErr result (held_of self.new ≡ grown (held_of self.old) (disk.Blanked area false)) }
+        ensures fails { FailsOnly ⊥ self.old self.new result }
+        // As the trait says.
+        ensures blank { OnOk result ((view_of self.new).seen ≡ option_map (with_area area (0 ∷ []))
+            (view_of self.old).seen) }
         ensures durable { OnOk result (EachImage (view_of self.new) (λ left. area_of left area ≡ 0 ∷ [])) }
         ensures elsewhere { ReadsElsewhere area (view_of self.old) (view_of self.new) }
         ensures spends { Spends 1 0 (view_of self.old) (view_of self.new) }
         ensures crash { Leaves (Blanked area) (view_of self.old) (view_of self.new) }
         ensures cause { HasCause (view_of self.old).faults (view_of self.new).faults result }
-        ensures done { OnOk result (held_of self.new ≡ grown (held_of self.old) (disk.Blanked area true)) }
-        ensures undone { OnErr result (held_of self.new ≡ grown (held_of self.old) (disk.Blanked area false)) }
-        ensures fails { FailsOnly ⊥ self.old self.new result }
     {
         if strikes(&self.fails, self.stop, &mut self.count, &mut self.faults) {
             self.kept.fail_blank(area);
@@ -230,13 +245,14 @@ impl Store for MemStore {
     }
 
     fn maker(&mut self) -> Result<MemMaker, Memory>
-        ensures new { IfOk result (λ maker. (maker_view maker).faults ≡ 0) }
-        ensures tells { IfOk result (λ maker. IsSome (view_of self.old).seen → IsSome (maker_view maker).made) }
         ensures listed { IfOk result (ListsFrom (maker_fails_of self.old) (reader_fails_of self.old)) }
-        ensures calm { Calm (view_of self.old) (view_of self.new) }
-        ensures faults { (view_of self.new).faults ≡ (view_of self.old).faults }
         ensures kept { held_of self.new ≡ held_of self.old }
         ensures uncounted { Uncounted self.old self.new }
+        // As the trait says.
+        ensures new { IfOk result (λ maker. (maker_view maker).faults ≡ 0) }
+        ensures tells { IfOk result (λ maker. IsSome (view_of self.old).seen → IsSome (maker_view maker).made) }
+        ensures calm { Calm (view_of self.old) (view_of self.new) }
+        ensures faults { (view_of self.new).faults ≡ (view_of self.old).faults }
     {
         let fails = Arc::try_clone(&self.maker_fails)?;
         let reader_fails = Arc::try_clone(&self.reader_fails)?;
@@ -246,18 +262,21 @@ impl Store for MemStore {
     fn adopt(&mut self, number: u64, sealed: MemSealed) -> Result<MemReader, Failed>
         requires calls { 1 ≤ (view_of self.old).spare_calls }
         requires new { Told (view_of self.old) (λ image. file image number ≡ None) }
-        ensures adopted { OnOk result ((bytes : List ℕ) → Some sealed.file ≡ Some bytes → (view_of self.new).seen ≡ option_map (with_file number bytes) (view_of self.old).seen) }
-        ensures not_adopted { OnErr result ((view_of self.new).seen ≡ (view_of self.old).seen) }
-        ensures durable { OnOk result ((bytes : List ℕ) → Some sealed.file ≡ Some bytes → EachImage (view_of self.new) (λ left. file left number ≡ Some bytes)) }
-        ensures new { IfOk result (λ reader. IsNew (reader_view reader)) }
-        ensures bytes { IfOk result (λ reader. (reader_view reader).bytes ≡ Some sealed.file) }
         ensures listed { IfOk result (made.ListsFrom (sealed_fails_of sealed)) }
-        ensures spends { Spends 1 0 (view_of self.old) (view_of self.new) }
-        ensures crash { Leaves Same (view_of self.old) (view_of self.new) }
-        ensures cause { HasCause (view_of self.old).faults (view_of self.new).faults result }
         ensures done { OnOk result (Adopts number sealed.file (held_of self.old) (held_of self.new)) }
         ensures undone { OnErr result (held_of self.new ≡ held_of self.old) }
         ensures fails { FailsOnly ⊥ self.old self.new result }
+        // As the trait says.
+        ensures adopted { OnOk result ((bytes : List ℕ) → Some sealed.file ≡ Some bytes
+            → (view_of self.new).seen ≡ option_map (with_file number bytes) (view_of self.old).seen) }
+        ensures not_adopted { OnErr result ((view_of self.new).seen ≡ (view_of self.old).seen) }
+        ensures durable { OnOk result ((bytes : List ℕ) → Some sealed.file ≡ Some bytes
+            → EachImage (view_of self.new) (λ left. file left number ≡ Some bytes)) }
+        ensures new { IfOk result (λ reader. IsNew (reader_view reader)) }
+        ensures bytes { IfOk result (λ reader. (reader_view reader).bytes ≡ Some sealed.file) }
+        ensures spends { Spends 1 0 (view_of self.old) (view_of self.new) }
+        ensures crash { Leaves Same (view_of self.old) (view_of self.new) }
+        ensures cause { HasCause (view_of self.old).faults (view_of self.new).faults result }
     {
         if strikes(&self.fails, self.stop, &mut self.count, &mut self.faults) {
             return Err(Failed);
@@ -268,18 +287,21 @@ impl Store for MemStore {
     }
 
     fn reader(&mut self, number: u64) -> Result<MemReader, DevError>
-        ensures new { IfOk result (λ reader. IsNew (reader_view reader)) }
-        ensures bytes { IfOk result (λ reader. Told (view_of self.old) (λ image. (reader_view reader).bytes ≡ file image number)) }
         ensures listed { IfOk result (made.ListsFrom (reader_fails_of self.old)) }
-        ensures there { IfOk result (λ _. Told (view_of self.old) (λ image. IsSome (file image number))) }
-        ensures absent { Told (view_of self.old) (λ image. IsErrOf result DevError.Absent → file image number ≡ None) }
-        ensures memory { Told (view_of self.old) (λ image. IsErrOf result DevError.Memory → IsSome (file image number)) }
-        ensures calm { Calm (view_of self.old) (view_of self.new) }
-        ensures cause { HasDevCause (view_of self.old).faults (view_of self.new).faults result }
         ensures kept { held_of self.new ≡ held_of self.old }
         ensures counted { Counted self.old self.new }
         ensures struck { IsNextStruck self.old → IsErrOf result DevError.Failed }
         ensures only { IsErrOf result DevError.Failed → IsNextStruck self.old }
+        // As the trait says.
+        ensures new { IfOk result (λ reader. IsNew (reader_view reader)) }
+        ensures bytes { IfOk result (λ reader. Told (view_of self.old) (λ image.
+            (reader_view reader).bytes ≡ file image number)) }
+        ensures there { IfOk result (λ _. Told (view_of self.old) (λ image. IsSome (file image number))) }
+        ensures absent { Told (view_of self.old) (λ image. IsErrOf result DevError.Absent → file image number ≡ None) }
+        ensures memory { Told (view_of self.old) (λ image. IsErrOf result DevError.Memory
+            → IsSome (file image number)) }
+        ensures calm { Calm (view_of self.old) (view_of self.new) }
+        ensures cause { HasDevCause (view_of self.old).faults (view_of self.new).faults result }
     {
         if strikes(&self.fails, self.stop, &mut self.count, &mut self.faults) {
             return Err(DevError::Failed);
@@ -290,14 +312,16 @@ impl Store for MemStore {
     fn forget_others(&mut self, keep: &[u64]) -> Result<(), Failed>
         requires calls { 1 ≤ (view_of self.old).spare_calls }
         requires rising { IsStrictlyIncreasing keep.now }
-        ensures forgot { OnOk result ((view_of self.new).seen ≡ option_map (with_files_of keep.now) (view_of self.old).seen) }
         ensures kept { Told (view_of self.old) (λ before. Told (view_of self.new) (ForgetsSome keep.now before)) }
-        ensures spends { Spends 1 0 (view_of self.old) (view_of self.new) }
-        ensures crash { Leaves (Forgets keep.now) (view_of self.old) (view_of self.new) }
-        ensures cause { HasCause (view_of self.old).faults (view_of self.new).faults result }
         ensures done { OnOk result (held_of self.new ≡ forgotten keep.now (held_of self.old)) }
         ensures undone { OnErr result (held_of self.new ≡ held_of self.old) }
         ensures fails { FailsOnly ⊥ self.old self.new result }
+        // As the trait says.
+        ensures forgot { OnOk result ((view_of self.new).seen ≡ option_map (with_files_of keep.now)
+            (view_of self.old).seen) }
+        ensures spends { Spends 1 0 (view_of self.old) (view_of self.new) }
+        ensures crash { Leaves (Forgets keep.now) (view_of self.old) (view_of self.new) }
+        ensures cause { HasCause (view_of self.old).faults (view_of self.new).faults result }
     {
         if strikes(&self.fails, self.stop, &mut self.count, &mut self.faults) {
             return Err(Failed);
@@ -307,122 +331,22 @@ impl Store for MemStore {
     }
 
     fn give_back(&mut self, maker: MemMaker)
-        ensures calm { Calm (view_of self.old) (view_of self.new) }
-        ensures counts { Counts (maker_view maker).faults (view_of self.old).faults (view_of self.new).faults }
         ensures kept { held_of self.new ≡ held_of self.old }
         ensures uncounted { Uncounted self.old self.new }
+        // As the trait says.
+        ensures calm { Calm (view_of self.old) (view_of self.new) }
+        ensures counts { Counts (maker_view maker).faults (view_of self.old).faults (view_of self.new).faults }
     {
         self.faults = self.faults.saturating_add(maker.faults());
     }
 
     fn give_back_reader(&mut self, reader: MemReader)
-        ensures calm { Calm (view_of self.old) (view_of self.new) }
-        ensures counts { Counts (reader_view reader).faults (view_of self.old).faults (view_of self.new).faults }
         ensures kept { held_of self.new ≡ held_of self.old }
         ensures uncounted { Uncounted self.old self.new }
+        // As the trait says.
+        ensures calm { Calm (view_of self.old) (view_of self.new) }
+        ensures counts { Counts (reader_view reader).faults (view_of self.old).faults (view_of self.new).faults }
     {
         self.faults = self.faults.saturating_add(reader.faults());
-    }
-}
-
-// The files of an image, adopted before any call.
-fn files_of(alloc: Global, entries: Vec<(u64, Octets)>) -> Result<Vec<File>, Memory>
-    requires { list_all is_short_file entries.items ≡ true }
-    ensures { IfOk result (λ files. files.items ≡ map first_file entries.items) }
-{
-    let mut files = Vec::new(alloc);
-    for (number, text) in entries {
-        let bytes = SharedBytes::new(alloc, text.into_vec(alloc)?)?;
-        files.push(File {
-            number,
-            bytes,
-            from: 0,
-            until: NEVER,
-        })?;
-    }
-    Ok(files)
-}
-
-impl MemStore {
-    ghost use Rattle.dev_memory.specs.Disk.{settled_by};
-    ghost use Rattle.dev_memory.specs.Kept.{at_first};
-    ghost use Rattle.std.specs.Prelude.{Some};
-    ghost use Rattle.dev_memory.specs.Crash.{AreSynced};
-    ghost use Rattle.dev_memory.specs.Images.{image_of, IsShort};
-    ghost use Rattle.std.specs.Prelude.{MatchBool};
-    ghost use Rattle.std.specs.FinMap.{get};
-    ghost use Rattle.dev_memory.specs.Spoils.{HasNoByte, Spoils};
-    ghost use Rattle.dev_memory.specs.Store.{Begins, Lists, empty_image, held_of, disk_of, view_of, SameCounts, Uncounted};
-
-    /// A store of three empty areas, without a file.
-    pub fn new(alloc: Global, faults: Faults) -> Result<MemStore, Memory>
-        ensures begins { IfOk result (λ store. Begins empty_image (view_of store)) }
-        ensures listed { IfOk result (λ store. Lists faults store) }
-    {
-        let mut areas = Vec::new(alloc);
-        areas.push(Octets::from_slice(alloc, b"")?)?;
-        areas.push(Octets::from_slice(alloc, b"")?)?;
-        areas.push(Octets::from_slice(alloc, b"")?)?;
-        let files = Vec::new(alloc);
-        MemStore::of_image(alloc, Image { areas, files }, faults)
-    }
-
-    /// One of the images that a crash now may leave, by number: the image as it reads for 0, and for 1 each area as it was at its last sync.
-    ///
-    /// A number below 8 does the same to each write since the last sync of its area, and to each blanking that failed: 0 as it reads, 1 nothing
-    /// of it, 2 the old bytes with the new length, 3 the first half of it, 4 the second half, 5 all of it also where it failed, 6 its bytes
-    /// turned, 7 the old bytes turned. A greater number has a digit to the base of 8 for each call in turn, from another one on for each area. By an odd
-    /// number, files that were forgotten are there.
-    pub fn image(&self, alloc: Global, pick: u64) -> Result<Image, Memory>
-        ensures left { IfOk result (λ image. (view_of self.now).may_leave (image_of image)) }
-        ensures read { pick ≡ 0 → IfOk result (λ image. (view_of self.now).seen ≡ Some (image_of image)) }
-        ensures synced { pick ≡ 1 → IfOk result (λ image. AreSynced (disk_of self.now) (image_of image)) }
-        ensures three { IfOk result (λ image. length image.areas.items ≡ 3) }
-        ensures short { IfOk result IsShort }
-    {
-        self.kept.image(alloc, pick)
-    }
-
-    /// Changes the byte at a place of an adopted file, and answers true: the store isn't honest from then on, reads the changed file, and leaves
-    /// it in crashes, too. A reader in hand still reads the bytes from before. It answers false, and changes nothing, where there is no such file
-    /// or place.
-    ///
-    /// # Errors
-    /// Want of memory for a copy of the file. Nothing is changed then.
-    pub fn spoil(&mut self, number: u64, at: u64, byte: u8) -> Result<bool, Memory>
-        ensures spoilt { IfOk result (λ spoilt. MatchBool spoilt (Spoils number at byte (disk_of self.old) (disk_of self.new)) (HasNoByte at (get (disk_of self.old).files number))) }
-        ensures honest { IfOk result (λ spoilt. MatchBool spoilt (IsFalse (view_of self.new).is_honest) ((view_of self.new).is_honest ≡ (view_of self.old).is_honest)) }
-        ensures same { IfOk result (λ spoilt. IsFalse spoilt → held_of self.new ≡ held_of self.old) }
-        ensures memory { OnErr result ((held_of self.new ≡ held_of self.old) × ((view_of self.new).is_honest ≡ (view_of self.old).is_honest)) }
-        ensures counts { SameCounts (view_of self.old) (view_of self.new) }
-        ensures uncounted { Uncounted self.old self.new }
-    {
-        let spoilt = self.kept.spoil(self.alloc, number, at, byte)?;
-        self.is_honest = self.is_honest && !spoilt;
-        Ok(spoilt)
-    }
-
-    /// A store that a crash left as this image: three areas, and none of them and no file above 2^44 bytes. Of each number the first file counts.
-    pub fn of_image(alloc: Global, image: Image, faults: Faults) -> Result<MemStore, Memory>
-        requires three { length image.areas.items ≡ 3 }
-        requires short { IsShort image }
-        ensures begins { IfOk result (λ store. Begins (image_of image) (view_of store)) }
-        ensures listed { IfOk result (λ store. Lists faults store) }
-    {
-        let files = files_of(alloc, image.files)?;
-        let kept = Kept::new(alloc, image.areas, files)?;
-        let maker_fails = Arc::new(alloc, faults.maker)?;
-        let reader_fails = Arc::new(alloc, faults.reader)?;
-        Ok(MemStore {
-            alloc,
-            kept,
-            fails: faults.store,
-            stop: faults.stop,
-            maker_fails,
-            reader_fails,
-            count: 0,
-            faults: 0,
-            is_honest: true,
-        })
     }
 }

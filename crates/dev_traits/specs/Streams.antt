@@ -48,11 +48,13 @@ abbrev pub PutCause : ℕ → ℕ → Put → Type 0
 PutCause before now put_.Failed = Counts 1 before now
 PutCause before now (put_.Took n) = now ≡ before
 
--- Inputs that tell give a source of the bytes under the name, and answer that it is absent exactly where they have none, so that they want
+-- Inputs that tell give a source of the bytes under the name, and answer that it is absent exactly where they have
+-- none, so that they want
 -- memory only for an input that is there. A new source has no fault.
 abbrev pub Asks : {S : Type 0} → (S → Option (List ℕ)) → (S → ℕ) → Option Files → List ℕ → Asked S → Type 0
 Asks left faults None name (asked.Got src) = (left src ≡ None) × (faults src ≡ 0)
-Asks left faults (Some files) name (asked.Got src) = (bytes : List ℕ) × (get files name ≡ Some bytes) × (left src ≡ Some bytes) × (faults src ≡ 0)
+Asks left faults (Some files) name (asked.Got src) = (bytes : List ℕ) × (get files name ≡ Some bytes)
+    × (left src ≡ Some bytes) × (faults src ≡ 0)
 Asks left faults None name asked.Absent = ⊤
 Asks left faults (Some files) name asked.Absent = get files name ≡ None
 Asks left faults files name asked.Failed = ⊤

@@ -13,7 +13,8 @@ pub fn sums_of_counts()
     ensures given_back { (xs ys : List ℕ) (given before now : ℕ) → Counts given before now
         → sum_of_counts (before ∷ (xs ++ given ∷ ys)) ≡ sum_of_counts (now ∷ (xs ++ ys)) }
     // A count of reads is told as its next value.
-    ensures next { (more before now : ℕ) → before ≤ 2 ^ 64 - 1 → now ≡ min (before + more) (2 ^ 64 - 1) → Counts more before now }
+    ensures next { (more before now : ℕ) → before ≤ 2 ^ 64 - 1 → now ≡ min (before + more) (2 ^ 64 - 1)
+        → Counts more before now }
     ensures further { (more further before between now : ℕ) → Counts more before between → Counts further between now
         → Counts (more + further) before now }
     ensures rose { (more before now : ℕ) → Counts more before now → RoseBy more before now }

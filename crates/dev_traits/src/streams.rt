@@ -1,5 +1,6 @@
 ghost use Rattle.std.specs.Prelude.{◌≡◌, ◌<◌, ◌≤◌, ℕ, List, Option, length};
-ghost use Rattle.dev_traits.specs.Streams.{Files, Asks, Takes, TakeWithin, TakeCause, AskCause, Puts, PutWithin, PutCause};
+ghost use Rattle.dev_traits.specs.Streams.{Files, Asks, Takes, TakeWithin, TakeCause, AskCause, Puts, PutWithin};
+ghost use Rattle.dev_traits.specs.Streams.{PutCause};
 ghost use Rattle.dev_traits.specs.Causes.{Counts};
 ghost use Rattle.dev_traits.specs.declared.streams.Taken.TheVariants as taken;
 ghost use Rattle.dev_traits.specs.declared.streams.Put.TheVariants as put_;
@@ -40,7 +41,8 @@ pub enum Put {
     Failed,
 }
 
-/// A stream of bytes that is read to its end. It isn't `Drop`: whoever asked for a source gives it back on every path, so that its faults are counted.
+/// A stream of bytes that is read to its end. It isn't `Drop`: whoever asked for a source gives it back on every
+/// path, so that its faults are counted.
 pub trait Source {
     /// The bytes that are left, where the source tells them.
     ghost left: { Self → Option (List ℕ) };

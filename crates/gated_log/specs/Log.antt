@@ -24,7 +24,8 @@ HasNone (gate ∷ rest) = gate ≢ 165
 -- The grammar: the bytes are a log of these bodies.
 abbrev pub IsLog : List (List ℕ) → List ℕ → Type 0
 IsLog [] bytes = HasNone bytes
-IsLog (body ∷ bodies) bytes = (rest : List ℕ) × (bytes ≡ (165 ∷ frame body) ++ rest) × IsBody body × (rest ≢ []) × IsLog bodies rest
+IsLog (body ∷ bodies) bytes = (rest : List ℕ) × (bytes ≡ (165 ∷ frame body) ++ rest) × IsBody body × (rest ≢ [])
+    × IsLog bodies rest
 
 -- the bytes aren't a log
 abbrev pub IsNoLog : List ℕ → Type 0
@@ -83,7 +84,8 @@ pub record IsScanned (at : ℕ) (bytes : List ℕ) : Type 0 where
   pub size : length (blocks bodies) ≡ at
   pub sizes : AreBodies bodies
   pub inside : at < length bytes
-  pub onward : (all : List (List ℕ)) → IsLog all bytes → (rest : List (List ℕ)) × (all ≡ bodies ++ rest) × IsLog rest (drop at bytes)
+  pub onward : (all : List (List ℕ)) → IsLog all bytes → (rest : List (List ℕ)) × (all ≡ bodies ++ rest)
+      × IsLog rest (drop at bytes)
 
 -- the bytes are a log of just these bodies, with its closed gate at this place
 pub record HasScanned (bodies : List (List ℕ)) (end : ℕ) (bytes : List ℕ) : Type 0 where

@@ -1,8 +1,10 @@
-ghost use Rattle.std.specs.Prelude.{◌≡◌, ◌+◌, ◌*◌, ◌-◌, ◌^◌, ◌<◌, ◌≤◌, [], ◌∷◌, ℕ, List, length, take, drop, IfOk, IsErrOf, IsTrue, MatchOption};
+ghost use Rattle.std.specs.Prelude.{◌≡◌, ◌+◌, ◌*◌, ◌-◌, ◌^◌, ◌<◌, ◌≤◌, [], ◌∷◌, ℕ, List, length, take, drop, IfOk};
+ghost use Rattle.std.specs.Prelude.{IsErrOf, IsTrue, MatchOption};
 ghost use Rattle.dev_traits.specs.Image.{area_of, Blanked};
 ghost use Rattle.dev_traits.specs.View.{Told, Calm, Leaves, ReadsElsewhere, Spends};
 ghost use Rattle.gated_log.specs.Faults.{HasLogCause};
-ghost use Rattle.gated_log.specs.Log.{IsLog, IsNoLog, HasNone, BeginsWith, HasScanned, EndsAt, IsSettled, IsReady, IsSynced};
+ghost use Rattle.gated_log.specs.Log.{IsLog, IsNoLog, HasNone, BeginsWith, HasScanned, EndsAt, IsSettled, IsReady};
+ghost use Rattle.gated_log.specs.Log.{IsSynced};
 ghost use Rattle.gated_log.specs.declared.fault.LogFault.TheVariants.{NotALog};
 
 use crate::log::reset;
@@ -24,7 +26,8 @@ fn body<S: Store>(
     requires order { at + 9 ≤ gate }
     requires short { gate ≤ 2 ^ 44 }
     requires inside { Told (S.view store.old) (λ image. gate ≤ length (area_of image area)) }
-    ensures body { IfOk result (λ body. Told (S.view store.old) (λ image. body ≡ take (gate - at - 9) (drop (at + 9) (area_of image area)))) }
+    ensures body { IfOk result (λ body. Told (S.view store.old) (λ image. body ≡ take (gate - at - 9) (drop (at + 9)
+        (area_of image area)))) }
     ensures calm { Calm (S.view store.old) (S.view store.new) }
     ensures cause { HasLogCause (S.view store.old).faults (S.view store.new).faults result }
     ensures a_log { IsErrOf result NotALog → ⊥ }
@@ -47,7 +50,8 @@ fn scan<S: Store>(alloc: Global, store: &mut S, area: u32, end: u64) -> Result<S
     requires some { 1 ≤ end }
     requires short { end ≤ 2 ^ 44 }
     requires whole { Told (S.view store.old) (λ image. end ≡ length (area_of image area)) }
-    ensures scanned { IfOk result (λ found. Told (S.view store.old) (λ image. HasScanned found.bodies.items found.end (area_of image area))) }
+    ensures scanned { IfOk result (λ found. Told (S.view store.old)
+        (λ image. HasScanned found.bodies.items found.end (area_of image area))) }
     ensures inside { IfOk result (λ found. (10 * length found.bodies.items ≤ found.end) × (found.end < end)) }
     ensures not_a_log { IsErrOf result NotALog → Told (S.view store.old) (λ image. IsNoLog (area_of image area)) }
     ensures calm { Calm (S.view store.old) (S.view store.new) }
@@ -67,13 +71,15 @@ fn scan<S: Store>(alloc: Global, store: &mut S, area: u32, end: u64) -> Result<S
     }
 }
 
-/// The bodies of an area's log, in their order. It writes nothing. Each takes at least 10 bytes of the area, also where the store tells nothing.
+/// The bodies of an area's log, in their order. It writes nothing. Each takes at least 10 bytes of the area, also
+/// where the store tells nothing.
 ///
 /// # Errors
 /// `NotALog` where the area isn't of the log's grammar, `StoreFault`, and `Memory` for the bodies.
 pub fn bodies<S: Store>(alloc: Global, store: &mut S, area: u32) -> Result<Vec<Octets>, LogFault>
     requires { area < 3 }
-    ensures bodies { IfOk result (λ bodies. Told (S.view store.old) (λ image. IsLog bodies.items (area_of image area))) }
+    ensures bodies { IfOk result (λ bodies. Told (S.view store.old) (λ image. IsLog bodies.items
+        (area_of image area))) }
     ensures few { IfOk result (λ bodies. 10 * length bodies.items < 2 ^ 44) }
     ensures not_a_log { IsErrOf result NotALog → Told (S.view store.old) (λ image. IsNoLog (area_of image area)) }
     ensures calm { Calm (S.view store.old) (S.view store.new) }
@@ -87,7 +93,8 @@ pub fn bodies<S: Store>(alloc: Global, store: &mut S, area: u32) -> Result<Vec<O
     Ok(found.bodies)
 }
 
-/// The first body of an area's log, or none where the log has none. It is read alone: what stands behind it isn't looked at. It writes nothing.
+/// The first body of an area's log, or none where the log has none. It is read alone: what stands behind it isn't
+/// looked at. It writes nothing.
 ///
 /// # Errors
 /// `NotALog` where the area doesn't begin as a log does, `StoreFault`, and `Memory` for the body.
@@ -100,7 +107,8 @@ pub fn first_body<S: Store>(
     ensures first { IfOk result (λ found. Told (S.view store.old) (λ image.
         MatchOption found (HasNone (area_of image area)) (λ body. BeginsWith body (area_of image area)))) }
     // Of a log it is the first one.
-    ensures of_log { IfOk result (λ found. Told (S.view store.old) (λ image. (bodies : List (List ℕ)) → IsLog bodies (area_of image area)
+    ensures of_log { IfOk result (λ found. Told (S.view store.old) (λ image. (bodies : List (List ℕ))
+        → IsLog bodies (area_of image area)
         → MatchOption found (bodies ≡ []) (λ body. (rest : List (List ℕ)) × (bodies ≡ body ∷ rest)))) }
     ensures not_a_log { IsErrOf result NotALog → Told (S.view store.old) (λ image. IsNoLog (area_of image area)) }
     ensures calm { Calm (S.view store.old) (S.view store.new) }
@@ -123,30 +131,35 @@ pub struct Contents {
     pub bodies: Vec<Octets>,
 }
 
-/// Finds the log of an area and reads its bodies, in one pass. It does to the area what `find` does: an empty area is blanked first, for which the
-/// call itself takes the store's room.
+/// Finds the log of an area and reads its bodies, in one pass. It does to the area what `find` does: an empty area is
+/// blanked first, for which the call itself takes the store's room.
 ///
 /// # Errors
-/// `NotALog` where the area isn't of the log's grammar, `StoreFault`, and `Memory` for the bodies or the room of the blanking. Nothing is written at
-/// `NotALog` and `Memory`; at `StoreFault` an empty area may be blank.
+/// `NotALog` where the area isn't of the log's grammar, `StoreFault`, and `Memory` for the bodies or the room of the
+/// blanking. Nothing is written at `NotALog` and `Memory`; at `StoreFault` an empty area may be blank.
 pub fn read_log<S: Store>(alloc: Global, store: &mut S, area: u32) -> Result<Contents, LogFault>
     requires { area < 3 }
     ensures area { IfOk result (λ found. found.log.area ≡ area) }
-    ensures bodies { IfOk result (λ found. Told (S.view store.old) (λ image. IsLog found.bodies.items (area_of image area))) }
-    ensures found { IfOk result (λ found. Told (S.view store.new) (λ image. EndsAt found.bodies.items found.log.end (area_of image area))) }
+    ensures bodies { IfOk result (λ found. Told (S.view store.old) (λ image. IsLog found.bodies.items
+        (area_of image area))) }
+    ensures found { IfOk result (λ found. Told (S.view store.new) (λ image. EndsAt found.bodies.items found.log.end
+        (area_of image area))) }
     ensures few { IfOk result (λ found. 10 * length found.bodies.items ≤ found.log.end) }
     ensures not_a_log { IsErrOf result NotALog → Told (S.view store.old) (λ image. IsNoLog (area_of image area)) }
 
     // A log that is settled stays so, and an empty area becomes a settled log without a body.
     ensures settled { (bodies : List (List ℕ)) (end : ℕ) → IsSettled area bodies end (S.view store.old)
-        → IfOk result (λ found. (found.log.end ≡ end) × (found.bodies.items ≡ bodies) × IsSettled area bodies end (S.view store.new)) }
+        → IfOk result (λ found. (found.log.end ≡ end) × (found.bodies.items ≡ bodies)
+        × IsSettled area bodies end (S.view store.new)) }
     ensures begun { IsTrue (S.view store.old).is_honest → Told (S.view store.old) (λ image. area_of image area ≡ []
         → IfOk result (λ found. (found.log.end ≡ 0) × IsSettled area [] 0 (S.view store.new))) }
 
     // Where a crash leaves what is read, the log can be appended to.
-    ensures ready { IsSynced area (S.view store.old) → IfOk result (λ found. IsReady found.log.area found.log.end (S.view store.new)) }
+    ensures ready { IsSynced area (S.view store.old) → IfOk result (λ found. IsReady found.log.area found.log.end
+        (S.view store.new)) }
 
-    ensures unwritten { Told (S.view store.old) (λ image. 1 ≤ length (area_of image area) → Calm (S.view store.old) (S.view store.new)) }
+    ensures unwritten { Told (S.view store.old) (λ image. 1 ≤ length (area_of image area)
+        → Calm (S.view store.old) (S.view store.new)) }
     ensures elsewhere { ReadsElsewhere area (S.view store.old) (S.view store.new) }
     ensures spends { Spends 1 0 (S.view store.old) (S.view store.new) }
     ensures any_moment { Leaves (Blanked area) (S.view store.old) (S.view store.new) }

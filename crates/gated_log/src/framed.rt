@@ -4,7 +4,8 @@ use dev_traits::Memory;
 use std::alloc::Global;
 use std::marker::Model;
 
-/// A body as an append writes it: its length as a u64, the highest byte first, the body and a closed gate. Contracts see the body.
+/// A body as an append writes it: its length as a u64, the highest byte first, the body and a closed gate. Contracts
+/// see the body.
 #[derive(Drop)]
 pub struct Framed {
     bytes: Vec<u8>,

@@ -21,16 +21,19 @@ pub struct Log {
     ghost no_longer: { end ≤ 2 ^ 44 },
 }
 
-/// Adds a body, by four device calls: the length, the body and a closed gate are written behind the log's closed gate and synced; then the gate is opened and
-/// synced. The store has room for them and for `Framed::room` bytes. At `Ok` each crash from then on leaves the body.
+/// Adds a body, by four device calls: the length, the body and a closed gate are written behind the log's closed gate
+/// and synced; then the gate is opened and synced. The store has room for them and for `Framed::room` bytes. At `Ok`
+/// each crash from then on leaves the body.
 ///
 /// # Errors
-/// `StoreFault`. A crash may then leave the area with the body or without, and so may a read, so the log isn't ready for another append before its area was
-/// synced and it was found again: over a gate that is open in some image alone, an append could leave bytes that are no log.
+/// `StoreFault`. A crash may then leave the area with the body or without, and so may a read, so the log isn't ready
+/// for another append before its area was synced and it was found again: over a gate that is open in some image
+/// alone, an append could leave bytes that are no log.
 pub fn append<S: Store>(store: &mut S, log: &mut Log, piece: &Framed) -> Result<(), LogFault>
     requires calls { 4 ≤ (S.view store.old).spare_calls }
     requires bytes { length piece.now + 10 ≤ (S.view store.old).spare_bytes }
-    requires log { Told (S.view store.old) (λ image. (bodies : List (List ℕ)) × EndsAt bodies log.old.end (area_of image log.old.area)) }
+    requires log { Told (S.view store.old) (λ image. (bodies : List (List ℕ))
+        × EndsAt bodies log.old.end (area_of image log.old.area)) }
 
     requires ready { IsReady log.old.area log.old.end (S.view store.old) }
 
@@ -40,17 +43,20 @@ pub fn append<S: Store>(store: &mut S, log: &mut Log, piece: &Framed) -> Result<
 
     // The gate, the length, the body and a closed gate stand over what was there, and all else is as it was.
     ensures written { OnOk result (Told (S.view store.old) (λ before. Told (S.view store.new) (λ after.
-        area_of after log.old.area ≡ overwritten (area_of before log.old.area) log.old.end (165 ∷ frame piece.now ++ 0 ∷ [])))) }
+        area_of after log.old.area ≡ overwritten (area_of before log.old.area) log.old.end
+        (165 ∷ frame piece.now ++ 0 ∷ [])))) }
 
     // A crash at any moment of the call leaves the bodies from before it, with the new one or without.
     ensures any_moment { (bodies : List (List ℕ)) → IsSettled log.old.area bodies log.old.end (S.view store.old)
         → Leaves (Appends log.old.area bodies piece.now) (S.view store.old) (S.view store.new) }
 
-    ensures acknowledged { OnOk result ((bodies : List (List ℕ)) → IsSettled log.old.area bodies log.old.end (S.view store.old)
+    ensures acknowledged { OnOk result ((bodies : List (List ℕ))
+        → IsSettled log.old.area bodies log.old.end (S.view store.old)
         → IsSettled log.new.area (bodies ++ piece.now ∷ []) log.new.end (S.view store.new)) }
 
     // A crash then leaves what is read.
-    ensures durable { OnOk result (Told (S.view store.new) (λ after. EachImage (S.view store.new) (λ left. area_of left log.new.area ≡ area_of after log.new.area))) }
+    ensures durable { OnOk result (Told (S.view store.new) (λ after. EachImage (S.view store.new)
+        (λ left. area_of left log.new.area ≡ area_of after log.new.area))) }
 
     ensures elsewhere { ReadsElsewhere log.old.area (S.view store.old) (S.view store.new) }
     ensures end { OnOk result (log.new.end ≡ log.old.end + 9 + length piece.now) }

@@ -1,10 +1,12 @@
-ghost use Rattle.std.specs.Prelude.{◌≡◌, ◌+◌, ◌^◌, ◌<◌, ◌≤◌, ◌∷◌, [], ℕ, List, length, drop, OnOk, IfOk, IfErr, IfSome, IsErrOf, IsTrue, MatchOption};
+ghost use Rattle.std.specs.Prelude.{◌≡◌, ◌+◌, ◌^◌, ◌<◌, ◌≤◌, ◌∷◌, [], ℕ, List, length, drop, OnOk, IfOk, IfErr};
+ghost use Rattle.std.specs.Prelude.{IfSome, IsErrOf, IsTrue, MatchOption};
 ghost use Rattle.std.specs.Int.{w64, to_be_bytes};
 ghost use Rattle.dev_traits.specs.Causes.{HasCause};
 ghost use Rattle.dev_traits.specs.Image.{area_of, Blanked};
 ghost use Rattle.dev_traits.specs.View.{Told, EachImage, Leaves, Calm, Spends, ReadsElsewhere};
 ghost use Rattle.gated_log.specs.Faults.{HasLogCause};
-ghost use Rattle.gated_log.specs.Log.{IsLog, IsNoLog, EndsAt, HasNone, IsBlock, IsScanned, IsSettled, IsReady, IsSynced};
+ghost use Rattle.gated_log.specs.Log.{IsLog, IsNoLog, EndsAt, HasNone, IsBlock, IsScanned, IsSettled, IsReady};
+ghost use Rattle.gated_log.specs.Log.{IsSynced};
 ghost use Rattle.gated_log.specs.declared.fault.LogFault.TheVariants.{StoreFault, NotALog};
 
 use crate::log::{OPEN, reset};
@@ -32,7 +34,8 @@ pub(crate) fn next<S: Store>(
     ensures block { IfOk result (λ found. Told (S.view store.old) (λ image.
         MatchOption found (HasNone (drop at (area_of image area))) (λ gate. IsBlock at gate (area_of image area)))) }
     ensures inside { IfOk result (λ found. IfSome found (λ gate. (at + 9 < gate) × (gate < end))) }
-    ensures not_a_log { IsErrOf result NotALog → Told (S.view store.old) (λ image. IsNoLog (drop at (area_of image area))) }
+    ensures not_a_log { IsErrOf result NotALog → Told (S.view store.old) (λ image. IsNoLog (drop at
+        (area_of image area))) }
     ensures calm { Calm (S.view store.old) (S.view store.new) }
     ensures cause { HasLogCause (S.view store.old).faults (S.view store.new).faults result }
     ensures memory { IsErrOf result LogFault.Memory → ⊥ }
@@ -60,7 +63,8 @@ fn closed_gate<S: Store>(store: &mut S, area: u32, end: u64) -> Result<u64, LogF
     requires some { 1 ≤ end }
     requires short { end ≤ 2 ^ 44 }
     requires whole { Told (S.view store.old) (λ image. end ≡ length (area_of image area)) }
-    ensures found { IfOk result (λ gate. Told (S.view store.old) (λ image. IsScanned gate (area_of image area) × HasNone (drop gate (area_of image area)))) }
+    ensures found { IfOk result (λ gate. Told (S.view store.old) (λ image. IsScanned gate (area_of image area)
+        × HasNone (drop gate (area_of image area)))) }
     ensures inside { IfOk result (λ gate. gate < end) }
     ensures not_a_log { IsErrOf result NotALog → Told (S.view store.old) (λ image. IsNoLog (area_of image area)) }
     ensures calm { Calm (S.view store.old) (S.view store.new) }
@@ -76,19 +80,20 @@ fn closed_gate<S: Store>(store: &mut S, area: u32, end: u64) -> Result<u64, LogF
     }
 }
 
-/// Finds the log of an area. An empty area is blanked first, for which the call itself takes the store's room.
-/// An area is a log, with its bodies in their order, or it is `NotALog`. It doesn't sync: where some image may have another gate open, sync the area
-/// first, and the log that is found is ready for an append.
+/// Finds the log of an area. An empty area is blanked first, for which the call itself takes the store's room. An
+/// area is a log, with its bodies in their order, or it is `NotALog`. It doesn't sync: where some image may have
+/// another gate open, sync the area first, and the log that is found is ready for an append.
 ///
 /// # Errors
-/// `NotALog` where the area isn't of the log's grammar, `StoreFault`, and `Memory` for the room of the blanking. Nothing is written at `NotALog` and
-/// `Memory`; at `StoreFault` an empty area may be blank.
+/// `NotALog` where the area isn't of the log's grammar, `StoreFault`, and `Memory` for the room of the blanking.
+/// Nothing is written at `NotALog` and `Memory`; at `StoreFault` an empty area may be blank.
 pub fn find<S: Store>(store: &mut S, area: u32) -> Result<Log, LogFault>
     requires { area < 3 }
     ensures area { IfOk result (λ log. log.area ≡ area) }
     ensures found { IfOk result (λ log. Told (S.view store.old) (λ before. Told (S.view store.new) (λ after.
         (bodies : List (List ℕ)) → IsLog bodies (area_of before area) → EndsAt bodies log.end (area_of after area)))) }
-    ensures a_log { OnOk result (Told (S.view store.old) (λ image. (bodies : List (List ℕ)) × IsLog bodies (area_of image area))) }
+    ensures a_log { OnOk result (Told (S.view store.old) (λ image. (bodies : List (List ℕ))
+        × IsLog bodies (area_of image area))) }
     ensures not_a_log { IsErrOf result NotALog → Told (S.view store.old) (λ image. IsNoLog (area_of image area)) }
 
     // A log that is settled stays so, and an empty area becomes a settled log without a body.
@@ -98,9 +103,11 @@ pub fn find<S: Store>(store: &mut S, area: u32) -> Result<Log, LogFault>
         → IfOk result (λ log. (log.end ≡ 0) × IsSettled area [] 0 (S.view store.new))) }
 
     // Where a crash leaves what is read, the log can be appended to.
-    ensures ready { IsSynced area (S.view store.old) → IfOk result (λ log. IsReady log.area log.end (S.view store.new)) }
+    ensures ready { IsSynced area (S.view store.old) → IfOk result (λ log. IsReady log.area log.end
+        (S.view store.new)) }
 
-    ensures unwritten { Told (S.view store.old) (λ image. 1 ≤ length (area_of image area) → Calm (S.view store.old) (S.view store.new)) }
+    ensures unwritten { Told (S.view store.old) (λ image. 1 ≤ length (area_of image area)
+        → Calm (S.view store.old) (S.view store.new)) }
     ensures elsewhere { ReadsElsewhere area (S.view store.old) (S.view store.new) }
     ensures spends { Spends 1 0 (S.view store.old) (S.view store.new) }
     ensures any_moment { Leaves (Blanked area) (S.view store.old) (S.view store.new) }

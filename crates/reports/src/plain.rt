@@ -50,10 +50,13 @@ fn rows_outcome(alloc: Global, version: u64, rows: &[Row]) -> Outcome
 {
     let mut text = Vec::new(alloc);
     match put_rows(&mut text, rows) {
-        Ok(()) => Outcome::Rows {
-            version,
-            count: rows.len() as u64,
-            text: Octets::from_vec(text),
+        Ok(()) => match Octets::from_vec(alloc, text) {
+            Ok(text) => Outcome::Rows {
+                version,
+                count: rows.len() as u64,
+                text,
+            },
+            Err(_) => Outcome::Outside(OutsideFault::Memory),
         },
         Err(_) => Outcome::Outside(OutsideFault::Memory),
     }

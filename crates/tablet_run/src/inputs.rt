@@ -249,7 +249,10 @@ fn read_file<I: Inputs>(
             Ok(name) => read_named(alloc, inputs, name, read),
             Err(_) => Err(Cause::Memory),
         },
-        None => Ok(Octets::from_vec(Vec::new(alloc))),
+        None => match Octets::from_slice(alloc, b"") {
+            Ok(none) => Ok(none),
+            Err(_) => Err(Cause::Memory),
+        },
     }
 }
 

@@ -18,10 +18,26 @@ module _ {E O : Type 0} where
   kept_part n v = record v { left = v.left - n }
 
   abbrev pub given_part : ℕ → PassState E O → PassState E O
-  given_part n v = record { opening = v.opening; seen = v.seen; shorter = []; mine = []; left = n; stage = 0; ticket = 0 }
+  given_part n v = record {
+    opening = v.opening;
+    seen = v.seen;
+    shorter = [];
+    mine = [];
+    left = n;
+    stage = 0;
+    ticket = 0;
+  }
 
   abbrev pub joined : PassState E O → PassState E O → PassState E O
-  joined v w = record { opening = v.opening; seen = longer v.seen w.seen; shorter = shorter_of v.seen w.seen; mine = merged v.mine w.mine; left = v.left + w.left; stage = v.stage; ticket = v.ticket }
+  joined v w = record {
+    opening = v.opening;
+    seen = longer v.seen w.seen;
+    shorter = shorter_of v.seen w.seen;
+    mine = merged v.mine w.mine;
+    left = v.left + w.left;
+    stage = v.stage;
+    ticket = v.ticket;
+  }
 
   abbrev pub waiting : PassState E O → ℕ → PassState E O
   waiting v t = record v { left = v.left - 1; stage = 1; ticket = t }
@@ -41,20 +57,27 @@ module _ {T E O : Type 0} where
 
   -- the slot has x, which is the outcome of all that was done
   abbrev pub HasTurn : (O → List E → Type 0) → (O → List E → T → Type 0) → Sat T E O → ℕ → Sat T E O → Type 0
-  HasTurn legal outcome m n m' = (x : T) × (log : List E) × (m' ≡ (turning m.0 log, (0, Some x) ∷ [])) × IsPrefix m.0.seen log × (length log ≡ n)
+  HasTurn legal outcome m n m' = (x : T) × (log : List E) × (m' ≡ (turning m.0 log, (0, Some x) ∷ []))
+      × IsPrefix m.0.seen log × (length log ≡ n)
       × ((o : O) → m.0.opening ≡ Some o → legal o log × outcome o log x)
 
-  abbrev pub awaited : (O → List E → Type 0) → (O → List E → T → Type 0) → Step (Option T) → Sat T E O → ℕ → Sat T E O → Type 0
+  abbrev pub awaited : (O → List E → Type 0) → (O → List E → T → Type 0) → Step (Option T) → Sat T E O → ℕ
+      → Sat T E O → Type 0
   awaited legal outcome st m n m' = (n ≢ m.0.ticket → m' ≡ m) × (n ≡ m.0.ticket → HasTurn legal outcome m n m')
 
   abbrev pub ended : List E → Step (Option T) → Sat T E O → ℕ → Sat T E O → Type 0
-  ended more st m n m' = (m' ≡ (ending m.0 more, [])) × (length m'.0.mine ≤ 2 ^ 62) × RiseUpTo (length m'.0.seen) m'.0.mine
+  ended more st m n m' = (m' ≡ (ending m.0 more, [])) × (length m'.0.mine ≤ 2 ^ 62)
+      × RiseUpTo (length m'.0.seen) m'.0.mine
 
   -- one turn: the history begins with all that was seen, is legal, and ends with the entry
   abbrev pub Turned : (O → List E → Type 0) → (O → List E → Type 0) → E → ℕ → Sat T E O → Sat T E O → Type 0
-  Turned legal told e seq m m' = (between : List E) × (m'.0.seen ≡ m.0.seen ++ between ++ e ∷ []) × (length m'.0.seen ≡ seq) × (m'.0.mine ≡ m.0.mine ++ seq ∷ [])
-      × (m'.0.left + 1 ≡ m.0.left) × (m'.0.opening ≡ m.0.opening) × (m'.0.stage ≡ 0) × (m'.1 ≡ []) × ((o : O) → m.0.opening ≡ Some o → legal o m'.0.seen × told o m'.0.seen)
+  Turned legal told e seq m m' = (between : List E) × (m'.0.seen ≡ m.0.seen ++ between ++ e ∷ [])
+      × (length m'.0.seen ≡ seq) × (m'.0.mine ≡ m.0.mine ++ seq ∷ [])
+      × (m'.0.left + 1 ≡ m.0.left) × (m'.0.opening ≡ m.0.opening) × (m'.0.stage ≡ 0) × (m'.1 ≡ [])
+      × ((o : O) → m.0.opening ≡ Some o → legal o m'.0.seen × told o m'.0.seen)
 
   -- what the history says of a pass that stands still
   abbrev pub looked : (O → List E → Type 0) → Step (Option T) → Sat T E O → ℕ → Sat T E O → Type 0
-  looked legal st m n m' = (m' ≡ m) × ((o : O) → m.0.opening ≡ Some o → legal o m.0.seen) × IsPrefix m.0.shorter m.0.seen × RiseUpTo (length m.0.seen) m.0.mine × (m.0.left ≤ 2 ^ 62) × (length m.0.mine ≤ 2 ^ 62)
+  looked legal st m n m' = (m' ≡ m) × ((o : O) → m.0.opening ≡ Some o → legal o m.0.seen)
+      × IsPrefix m.0.shorter m.0.seen × RiseUpTo (length m.0.seen) m.0.mine × (m.0.left ≤ 2 ^ 62)
+      × (length m.0.mine ≤ 2 ^ 62)

@@ -1,10 +1,12 @@
 //! A lock round a value, and the passes of those who use it.
 //!
-//! Whoever takes a turn has the value alone, does one act on it and adds one entry to the history of the lock. The history is
-//! nowhere stored: contracts see in each pass how much of it the holder knows. Places in the history are numbered from 1.
+//! Whoever takes a turn has the value alone, does one act on it and adds one entry to the history of the lock. The
+//! history is nowhere stored: contracts see in each pass how much of it the holder knows. Places in the history are
+//! numbered from 1.
 //!
 //! Each call asks that the passes that it gets are of this book, as those are that `new` and `split` of this book gave.
-ghost use Rattle.std.specs.Prelude.{◌≡◌, ◌+◌, ◌-◌, ◌^◌, ◌<◌, ◌≤◌, List, [], ◌∷◌, ◌++◌, length, Option, Some, None, IfOk, IfErr, IsOk};
+ghost use Rattle.std.specs.Prelude.{◌≡◌, ◌+◌, ◌-◌, ◌^◌, ◌<◌, ◌≤◌, List, [], ◌∷◌, ◌++◌, length, Option, Some, None};
+ghost use Rattle.std.specs.Prelude.{IfOk, IfErr, IsOk};
 ghost use mathlib.Core.List.{IsPrefix};
 ghost use Rattle.turn_book.specs.Places.{RiseUpTo, places_after};
 ghost use Rattle.turn_book.specs.Passes.{Booking, Holding, IsOf, blank, share, less, Both};
@@ -18,8 +20,8 @@ use std::marker::{Brand, Model};
 use std::snapshot::Snapshot;
 use std::sync::Wait;
 
-/// What one caller knows of the history of its book, which of the calls there are its own, and how many turns it may still take.
-/// A pass that is dropped takes its turns with it, and its book can then not be closed.
+/// What one caller knows of the history of its book, which of the calls there are its own, and how many turns it may
+/// still take. A pass that is dropped takes its turns with it, and its book can then not be closed.
 pub struct Pass<T: Replayed> {
     seat: PassSeat<T>,
     left: u64,
@@ -29,9 +31,17 @@ pub struct Pass<T: Replayed> {
 impl<T: Replayed> Model for Pass<T> {
     ghost Value = { Holding T.Entry T.Opening };
 
-    ghost view = { λ p. record { book = p.seat.table_id; opening = p.seat.me.0.opening; seen = p.seat.me.0.seen; mine = p.seat.me.0.mine; left = p.seat.me.0.left } };
+    ghost view = { λ p. record {
+      book = p.seat.table_id;
+      opening = p.seat.me.0.opening;
+      seen = p.seat.me.0.seen;
+      mine
+          = p.seat.me.0.mine;
+      left = p.seat.me.0.left;
+    } };
 
-    ghost invariant = { λ p. (p.seat.me.1 ≡ []) × (p.seat.me.0.stage ≡ 0) × (p.seat.me.0.left ≡ p.left) × (length p.seat.me.0.mine ≡ p.used) × (p.left ≤ 2 ^ 62) × (p.used ≤ 2 ^ 62) };
+    ghost invariant = { λ p. (p.seat.me.1 ≡ []) × (p.seat.me.0.stage ≡ 0) × (p.seat.me.0.left ≡ p.left)
+        × (length p.seat.me.0.mine ≡ p.used) × (p.left ≤ 2 ^ 62) × (p.used ≤ 2 ^ 62) };
 }
 
 impl<T: Replayed> Drop for Pass<T> {
@@ -53,9 +63,14 @@ pub struct TurnBook<T: Replayed> {
 impl<T: Replayed> Model for TurnBook<T> {
     ghost Value = { Booking T.Opening };
 
-    ghost view = { λ b. record { id = b.table.shared.table_id; opening = T.opening b.table.shared.key.first.value; turns = b.turns } };
+    ghost view = { λ b. record {
+      id = b.table.shared.table_id;
+      opening = T.opening b.table.shared.key.first.value;
+      turns = b.turns;
+    } };
 
-    ghost invariant = { λ b. (b.table.shared.table_id.words ≡ 2) × (b.table.shared.table_id.slots ≡ 1) × (b.table.shared.key.turns ≡ b.turns) };
+    ghost invariant = { λ b. (b.table.shared.table_id.words ≡ 2) × (b.table.shared.table_id.slots ≡ 1)
+        × (b.table.shared.key.turns ≡ b.turns) };
 }
 
 impl<T: Replayed + Drop> Drop for TurnBook<T> {
@@ -75,8 +90,10 @@ impl<T: Replayed> Pass<T> {
     // The seat, the turns left and the number of calls.
     fn open(self) -> (PassSeat<T>, u64, u64)
         ensures seat { (result.0.table_id ≡ self.book) × (result.0.me.1 ≡ []) × (result.0.me.0.stage ≡ 0) }
-        ensures view { (result.0.me.0.opening ≡ self.opening) × (result.0.me.0.seen ≡ self.seen) × (result.0.me.0.mine ≡ self.mine) × (result.0.me.0.left ≡ self.left) }
-        ensures counts { (result.1 ≡ self.left) × (result.1 ≤ 2 ^ 62) × (result.2 ≡ length self.mine) × (result.2 ≤ 2 ^ 62) }
+        ensures view { (result.0.me.0.opening ≡ self.opening) × (result.0.me.0.seen ≡ self.seen)
+            × (result.0.me.0.mine ≡ self.mine) × (result.0.me.0.left ≡ self.left) }
+        ensures counts { (result.1 ≡ self.left) × (result.1 ≤ 2 ^ 62) × (result.2 ≡ length self.mine)
+            × (result.2 ≤ 2 ^ 62) }
     {
         let Self { seat, left, used } = self;
         (seat, left, used)
@@ -108,7 +125,8 @@ impl<T: Replayed> TurnBook<T> {
         turns: u64,
     ) -> Result<(TurnBook<T>, Pass<T>), (T, AllocError)>
         requires { turns ≤ 2 ^ 62 }
-        ensures ok { IfOk result (λ r. (r.0.turns ≡ turns) × (r.0.opening ≡ T.opening value) × (r.1 ≡ blank r.0 turns)) }
+        ensures ok { IfOk result (λ r. (r.0.turns ≡ turns) × (r.0.opening ≡ T.opening value)
+            × (r.1 ≡ blank r.0 turns)) }
         ensures err { IfErr result (λ r. r.0 ≡ value) }
     {
         let terms = Terms {
@@ -172,8 +190,9 @@ impl<T: Replayed> TurnBook<T> {
         Ok(self.part(pass, turns))
     }
 
-    /// Waits for a turn, plays the act on the value, and answers the place of its entry in the history, with the act's reply.
-    /// What was seen before is kept, the entries of others follow it, and the act's own entry is the last.
+    /// Waits for a turn, plays the act on the value, and answers the place of its entry in the history, with the
+    /// act's reply. What was seen before is kept, the entries of others follow it, and the act's own entry is the
+    /// last.
     pub fn turn<A: Act<T>, R: Wait>(
         &self,
         rt: &R,
@@ -240,8 +259,9 @@ impl<T: Replayed> TurnBook<T> {
         Ok(())
     }
 
-    /// Ends the history and gives the value back. The turns that the pass has left and the calls that are its own are together all turns of the book, so no
-    /// other pass has either, this one has seen the whole history, and each call there is its own.
+    /// Ends the history and gives the value back. The turns that the pass has left and the calls that are its own are
+    /// together all turns of the book, so no other pass has either, this one has seen the whole history, and each
+    /// call there is its own.
     pub fn close(self, pass: Pass<T>) -> T
         requires book { IsOf self pass }
         requires turns { pass.left + length pass.mine ≡ self.turns }

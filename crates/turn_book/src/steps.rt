@@ -1,7 +1,9 @@
 //! The steps of a turn, on a seat at the table.
-ghost use Rattle.std.specs.Prelude.{◌≡◌, ◌+◌, ◌-◌, ◌^◌, ◌<◌, ◌≤◌, List, [], ◌∷◌, ◌++◌, length, Option, Some, None, IfOk};
+ghost use Rattle.std.specs.Prelude.{◌≡◌, ◌+◌, ◌-◌, ◌^◌, ◌<◌, ◌≤◌, List, [], ◌∷◌, ◌++◌, length, Option, Some, None};
+ghost use Rattle.std.specs.Prelude.{IfOk};
 ghost use mathlib.Core.List.{IsPrefix};
-ghost use Rattle.turn_book.specs.Plays.{waiting, turning, ending, HasTurn, Turned, kept_part, given_part, joined, longer, shorter_of};
+ghost use Rattle.turn_book.specs.Plays.{waiting, turning, ending, HasTurn, Turned, kept_part, given_part, joined};
+ghost use Rattle.turn_book.specs.Plays.{longer, shorter_of};
 ghost use Rattle.turn_book.specs.Places.{Rises, RiseUpTo, places_after, merged};
 
 use crate::plays::{Added, Await, Cut, Draw, End, Glue, Look, Parted};
@@ -59,7 +61,9 @@ pub(crate) fn await_turn<T: Replayed, R: Wait>(
 // Gives the slot back, and adds to the history.
 pub(crate) fn end<T: Replayed, N: Added<T::Entry>>(board: &Board<T>, seat: &mut PassSeat<T>)
     requires place { (seat.old.table_id ≡ board.now.table_id) × (board.now.table_id.words ≡ 2) }
-    requires turn { (e : _) × (y : _) × (seat.old.me.0.stage ≡ 2) × (seat.old.me.1 ≡ (0, Some y) ∷ []) × (N.more ≡ e ∷ []) × ((x : _) × (seat.old.me.0.opening ≡ Some x) × T.legal x (seat.old.me.0.seen ++ e ∷ []) × T.outcome x (seat.old.me.0.seen ++ e ∷ []) y) }
+    requires turn { (e : _) × (y : _) × (seat.old.me.0.stage ≡ 2) × (seat.old.me.1 ≡ (0, Some y) ∷ [])
+        × (N.more ≡ e ∷ []) × ((x : _) × (seat.old.me.0.opening ≡ Some x)
+        × T.legal x (seat.old.me.0.seen ++ e ∷ []) × T.outcome x (seat.old.me.0.seen ++ e ∷ []) y) }
     ensures place { (seat.new.table_id ≡ seat.old.table_id) × (seat.new.id ≡ seat.old.id) }
     ensures ended { (seat.new.me ≡ (ending seat.old.me.0 N.more, [])) × (length seat.new.me.0.mine ≤ 2 ^ 62) }
     ensures order { RiseUpTo (length seat.new.me.0.seen) seat.new.me.0.mine }
@@ -99,9 +103,13 @@ pub(crate) fn end_as<T: Replayed, A: Act<T>, N: Added<T::Entry>>(
 )
     requires place { (seat.old.table_id ≡ board.now.table_id) × (board.now.table_id.words ≡ 2) }
     requires entry { N.more ≡ A.entry _before.now.value _reply.now ∷ [] }
-    requires turn { (y : _) × (seat.old.me.0.stage ≡ 2) × (seat.old.me.1 ≡ (0, Some y) ∷ []) × ((x : _) × (seat.old.me.0.opening ≡ Some x) × T.legal x (seat.old.me.0.seen ++ A.entry _before.now.value _reply.now ∷ []) × T.outcome x (seat.old.me.0.seen ++ A.entry _before.now.value _reply.now ∷ []) y) }
+    requires turn { (y : _) × (seat.old.me.0.stage ≡ 2) × (seat.old.me.1 ≡ (0, Some y) ∷ []) × ((x : _)
+        × (seat.old.me.0.opening ≡ Some x) × T.legal x
+        (seat.old.me.0.seen ++ A.entry _before.now.value _reply.now ∷ [])
+        × T.outcome x (seat.old.me.0.seen ++ A.entry _before.now.value _reply.now ∷ []) y) }
     ensures place { (seat.new.table_id ≡ seat.old.table_id) × (seat.new.id ≡ seat.old.id) }
-    ensures ended { (seat.new.me ≡ (ending seat.old.me.0 (A.entry _before.now.value _reply.now ∷ []), [])) × (length seat.new.me.0.mine ≤ 2 ^ 62) }
+    ensures ended { (seat.new.me ≡ (ending seat.old.me.0 (A.entry _before.now.value _reply.now ∷ []), []))
+        × (length seat.new.me.0.mine ≤ 2 ^ 62) }
     ensures order { RiseUpTo (length seat.new.me.0.seen) seat.new.me.0.mine }
 {
     end::<T, N>(board, seat);
@@ -118,7 +126,8 @@ pub(crate) fn play_turn<T: Replayed, A: Act<T>, R: Wait>(
     requires rests { (seat.old.me.1 ≡ []) × (seat.old.me.0.stage ≡ 0) × (0 < seat.old.me.0.left) }
     requires may { (o : _) × (seat.old.me.0.opening ≡ Some o) × A.may act.old o seat.old.me.0.seen }
     ensures place { (seat.new.table_id ≡ seat.old.table_id) × (seat.new.id ≡ seat.old.id) }
-    ensures turn { Turned T.legal (λ o h. A.told o h act.old act.new result.1) (A.entry act.old result.1) result.0 seat.old.me seat.new.me }
+    ensures turn { Turned T.legal (λ o h. A.told o h act.old act.new result.1)
+        (A.entry act.old result.1) result.0 seat.old.me seat.new.me }
     ensures few { length seat.new.me.0.mine ≤ 2 ^ 62 }
     ensures order { RiseUpTo (length seat.new.me.0.seen) seat.new.me.0.mine }
 {
@@ -161,15 +170,18 @@ pub(crate) fn cut<T: Replayed, N: Parted>(
 
 // Takes another in, and looks.
 pub(crate) fn glue<T: Replayed>(board: &Board<T>, seat: &mut PassSeat<T>, other: PassSeat<T>)
-    requires place { (seat.old.table_id ≡ board.now.table_id) × (board.now.table_id.words ≡ 2) × (other.table_id ≡ board.now.table_id) }
+    requires place { (seat.old.table_id ≡ board.now.table_id) × (board.now.table_id.words ≡ 2)
+        × (other.table_id ≡ board.now.table_id) }
     requires rest { (seat.old.me.0.stage ≡ 0) × (other.me.0.stage ≡ 0) × (other.me.1 ≡ []) }
     ensures place { seat.new.table_id ≡ seat.old.table_id }
     ensures both { seat.new.me ≡ (joined seat.old.me.0 other.me.0, seat.old.me.1) }
     ensures legal { (o : _) → seat.old.me.0.opening ≡ Some o → T.legal o seat.new.me.0.seen }
-    ensures short { IsPrefix (shorter_of seat.old.me.0.seen other.me.0.seen) (longer seat.old.me.0.seen other.me.0.seen) }
+    ensures short { IsPrefix (shorter_of seat.old.me.0.seen other.me.0.seen)
+        (longer seat.old.me.0.seen other.me.0.seen) }
     ensures order { RiseUpTo (length seat.new.me.0.seen) seat.new.me.0.mine }
     ensures rising { Rises 0 (merged seat.old.me.0.mine other.me.0.mine) }
-    ensures few { (seat.old.me.0.left + other.me.0.left ≤ 2 ^ 62) × (length (merged seat.old.me.0.mine other.me.0.mine) ≤ 2 ^ 62) }
+    ensures few { (seat.old.me.0.left + other.me.0.left ≤ 2 ^ 62)
+        × (length (merged seat.old.me.0.mine other.me.0.mine) ≤ 2 ^ 62) }
 {
     board.join_seat::<Glue>(seat, other);
     look(board, seat);
@@ -190,7 +202,8 @@ pub(crate) fn end_all<T: Replayed>(table: Desk<T>, seat: PassSeat<T>) -> T
     requires turns { seat.me.0.left + length seat.me.0.mine ≡ table.shared.key.turns }
     ensures outcome { T.outcome (T.opening table.shared.key.first.value) seat.me.0.seen result }
     ensures legal { T.legal (T.opening table.shared.key.first.value) seat.me.0.seen }
-    ensures calls { (seat.me.0.mine ≡ places_after 0 (length seat.me.0.seen)) × (length seat.me.0.mine ≡ length seat.me.0.seen) }
+    ensures calls { (seat.me.0.mine ≡ places_after 0 (length seat.me.0.seen))
+        × (length seat.me.0.mine ≡ length seat.me.0.seen) }
 {
     let mut closed = table.close_with(seat);
     let slot = closed.take(0);

@@ -9,8 +9,8 @@ use std::alloc::{AllocError, Global};
 use std::sync::Wait;
 use turn_book::book::{Pass, TurnBook};
 
-/// The first caller hands a score in, then both meet, and the second learns how far the score is behind the best of the history that
-/// it has seen by then, which begins with all that both had seen.
+/// The first caller hands a score in, then both meet, and the second learns how far the score is behind the best of
+/// the history that it has seen by then, which begins with all that both had seen.
 ///
 /// # Errors
 /// None comes, since `meet` takes no memory.
@@ -28,7 +28,8 @@ pub fn behind_best<R: Wait>(
     ensures always { IsOk result }
     ensures behind { IfOk result (λ behind. score + behind ≡ best_after book.now.opening second.new.seen) }
     ensures begins { IsPrefix first.old.seen second.new.seen × IsPrefix second.old.seen second.new.seen }
-    ensures calls { (length first.new.mine ≡ length first.old.mine + 1) × (length second.new.mine ≡ length second.old.mine + 1) }
+    ensures calls { (length first.new.mine ≡ length first.old.mine + 1)
+        × (length second.new.mine ≡ length second.old.mine + 1) }
     ensures left { (first.new.left + 1 ≡ first.old.left) × (second.new.left + 1 ≡ second.old.left) }
 {
     let (place, ()) = book.turn(rt, first, &mut Submit { score });

@@ -47,18 +47,21 @@ pub fn count_beside<R: Threads + Wait + Sync>(
         rt,
         move || -> Pass<Counter>
             requires { IsSync R.row × IsOf book.now pass }
-            ensures { IsOf book.entry.now result × (result.left ≡ 0) × (length result.mine ≡ length pass.mine + pass.left) }
+            ensures { IsOf book.entry.now result × (result.left ≡ 0)
+                × (length result.mine ≡ length pass.mine + pass.left) }
         { count_beside(rt, alloc, book, pass, more) },
         move || -> Pass<Counter>
             requires { IsSync R.row × IsOf book.now other }
-            ensures { IsOf book.entry.now result × (result.left ≡ 0) × (length result.mine ≡ length other.mine + other.left) }
+            ensures { IsOf book.entry.now result × (result.left ≡ 0)
+                × (length result.mine ≡ length other.mine + other.left) }
         { count_beside(rt, alloc, book, other, few) },
     );
     book.join(&mut pass, other);
     pass
 }
 
-/// So many threads take so many turns together, each of which counts on by one from 0. It answers where the counter ends.
+/// So many threads take so many turns together, each of which counts on by one from 0. It answers where the counter
+/// ends.
 ///
 /// # Errors
 /// Want of memory.

@@ -64,7 +64,8 @@ fn meet_both(
     requires second { StandsAt second.old.seen _theirs.place _theirs.number }
     ensures book { IsOf book.now first.new × IsOf book.now second.new }
     ensures always { IsOk result }
-    ensures first { StandsAt first.new.seen _mine.place _mine.number × StandsAt first.new.seen _theirs.place _theirs.number }
+    ensures first { StandsAt first.new.seen _mine.place _mine.number
+        × StandsAt first.new.seen _theirs.place _theirs.number }
     ensures one { first.new.seen ≡ second.new.seen }
     ensures calls { (first.new.mine ≡ first.old.mine) × (second.new.mine ≡ second.old.mine) }
     ensures left { (first.new.left ≡ first.old.left) × (second.new.left ≡ second.old.left) }
@@ -94,11 +95,13 @@ pub fn take_two_of_three<R: Threads + Wait + Sync>(
         rt,
         move || -> (Pass<Counter>, Drawn)
             requires { IsOf lent.now first × (0 < first.left) × (first.mine ≡ []) }
-            ensures { IsOf lent.entry.now result.0 × (result.0.left + 1 ≡ first.left) × (result.0.mine ≡ result.1.place ∷ []) × StandsAt result.0.seen result.1.place result.1.number }
+            ensures { IsOf lent.entry.now result.0 × (result.0.left + 1 ≡ first.left)
+                × (result.0.mine ≡ result.1.place ∷ []) × StandsAt result.0.seen result.1.place result.1.number }
         { draw(rt, lent, first) },
         move || -> (Pass<Counter>, Drawn)
             requires { IsOf lent.now second × (0 < second.left) × (second.mine ≡ []) }
-            ensures { IsOf lent.entry.now result.0 × (result.0.left + 1 ≡ second.left) × (result.0.mine ≡ result.1.place ∷ []) × StandsAt result.0.seen result.1.place result.1.number }
+            ensures { IsOf lent.entry.now result.0 × (result.0.left + 1 ≡ second.left)
+                × (result.0.mine ≡ result.1.place ∷ []) × StandsAt result.0.seen result.1.place result.1.number }
         { draw(rt, lent, second) },
     );
     meet_both(alloc, &book, &mut first, &mut second, mine, theirs)?;

@@ -1,7 +1,7 @@
 use Rattle.std.proofs.Common.{ℕ, List, ◌≡◌, ◌-◌, length, take, drop, sym, subst, refl, arith, ap, ◌∙◌, length-drop, rules}
 use Rattle.std.proofs.lemmas.List.{take_rest}
 use Rattle.dev_memory.specs.Disk.{deeds, written, at_rest}
-use Rattle.dev_memory.specs.Crash.{one_replay, IsAtRest, Stands, Left}
+use Rattle.dev_memory.specs.Crash.{one_replay, IsAtRest, Remains, Left}
 use Rattle.dev_memory.specs.declared.call.Call.{Call}
 use Rattle.dev_memory.proofs.Crashes.{written_parts, left_whole}
 use Rattle.dev_memory.proofs.Views.{if_ok}
@@ -40,5 +40,5 @@ returns-clause-left c =
     if_ok c.from_vec.result _ _ c.from_vec.ensures.bytes (λ text is. subst (Left c.args.pick (one_replay a (deeds c.args.pieces.now c.args.calls.now) (at_rest c.args.start.now))) (sym (is ∙ c.into_vec.ensures.bytes))
     (left_whole a c.args.pick c.args.start.now c.args.calls.now c.args.pieces.now c.last_rest.result early late c.replay.new.bytes.bytes c.leave_all.new.bytes.bytes c.leave_all.new.left.bytes c.split_at.ensures.front c.split_at.ensures.back rest reads
     (λ none. omega (arith, none))
-    (λ d first. subst (λ (l : List ℕ). Stands c.args.pick (one_replay a (deeds l late) d) c.leave_all.new.bytes.bytes c.leave_all.new.left.bytes) part
-    (c.in_ok-leave_all.ensures d (subst (λ (l : List ℕ). Stands c.args.pick d c.replay.new.bytes.bytes l) (sym copied) first)))))
+    (λ d first. subst (λ (l : List ℕ). Remains c.args.pick (one_replay a (deeds l late) d) c.leave_all.new.bytes.bytes c.leave_all.new.left.bytes) part
+    (c.in_ok-leave_all.ensures d (subst (λ (l : List ℕ). Remains c.args.pick d c.replay.new.bytes.bytes l) (sym copied) first)))))
