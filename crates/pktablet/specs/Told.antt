@@ -1,6 +1,8 @@
 -- What the program says beside a report.
-use Rattle.std.specs.Prelude.{ℕ, List, [], ◌∷◌, Bool as Truth, false, is_some, Option, Some, None}
+use Rattle.std.specs.Prelude.{◌≡◌, ◌⊎◌, ℕ, List, [], ◌∷◌, Bool as Truth, true, false, is_some, Option, Some, None}
 use Rattle.command_line.specs.Words.{asked_by}
+use Rattle.pk_model.specs.Books.{new_book}
+use Rattle.tablet_run.specs.Runs.{Ends, Setting}
 use Rattle.tablet_run.specs.declared.causes.Cause.{Cause}
 use Rattle.tablet_run.specs.declared.causes.Cause.TheVariants as cause
 
@@ -9,6 +11,26 @@ abbrev pub asks_alone : List (List ℕ) → Truth
 asks_alone [] = false
 asks_alone (word ∷ []) = is_some (asked_by word)
 asks_alone (a ∷ b ∷ words) = false
+
+-- a run over the host's files and standard output, of which nothing is known: what it is given and what it leaves
+abbrev pub on_host : List (List ℕ) → Setting
+on_host words = record { files = None; words = words; book = new_book; before = None; now = None }
+
+-- how a run of these words ends there
+abbrev pub EndsOnHost : List (List ℕ) → Cause → Type 0
+EndsOnHost words c = Ends (on_host words) c
+
+-- a run could not be begun: its words could not be read, or listed
+abbrev pub IsNotBegun : Cause → Type 0
+IsNotBegun c = (c ≡ cause.Memory) ⊎ (c ≡ cause.Words)
+
+-- what a single word asks for could not be printed, or was
+abbrev pub IsPrinted : Cause → Type 0
+IsPrinted c = (c ≡ cause.None) ⊎ (c ≡ cause.Memory) ⊎ (c ≡ cause.Sink)
+
+-- how the program ends by its words: what a single word asks for is printed, and all else is a run
+abbrev pub EndsAs : List (List ℕ) → Cause → Type 0
+EndsAs words c = (IsPrinted c × ((c ≡ cause.None) → asks_alone words ≡ true)) ⊎ IsNotBegun c ⊎ ((asks_alone words ≡ false) × EndsOnHost words c)
 
 -- the table's file or the script's, by why a run ended
 abbrev pub file_by : Cause → List ℕ → List ℕ → Option (List ℕ)

@@ -1,14 +1,15 @@
 //! One tablet of a primary key table, run by a script of jobs.
 #![tactic(auto)]
 
-ghost use Rattle.std.specs.Prelude.{◌≡◌, ◌↔◌, ◌⊎◌, IfOk, Ok, Some, None, map, option_map, string_bytes, true, false};
+ghost use Rattle.std.specs.Prelude.{◌≡◌, ◌↔◌, ◌⊎◌, IfOk, IfSome, Ok, Some, None, map, option_map, string_bytes, true, false};
 ghost use Rattle.std.specs.Process.{exit_status};
+ghost use Rattle.command_line.specs.Words.{texts};
 ghost use Rattle.tablet_run.specs.Statuses.{cause_status};
-ghost use Rattle.pktablet.specs.Told.{asks_alone, file_told};
+ghost use Rattle.pktablet.specs.Told.{EndsAs, EndsOnHost, IsNotBegun, IsPrinted, asks_alone, file_told};
 
 use command_line::text_for;
 use dev_host::{HostInputs, HostSink};
-use std::alloc::Global;
+use std::alloc::{AllocError, Global};
 use std::env::Env;
 use std::io::ErrorKind;
 use std::process::ExitCode;
@@ -41,15 +42,24 @@ fn answer_word(rt: &HostRuntime, words: &[String]) -> io::Result<bool>
     }
 }
 
+// The words as texts.
+fn texts_of(alloc: Global, words: &[String]) -> Result<Vec<&str>, AllocError>
+    ensures { IfOk result (λ found. texts found.items ≡ map string_bytes words.now) }
+{
+    let mut found = Vec::new(alloc);
+    for word in words {
+        found.push(word.as_str())?;
+    }
+    Ok(found)
+}
+
 // Runs the words over the host's files and standard output.
 fn run_on_host(rt: &HostRuntime, words: &[String]) -> io::Result<Ended>
     ensures status { IfOk result (λ ended. ended.status ≡ cause_status ended.cause) }
+    ensures ends { IfOk result (λ ended. EndsOnHost (map string_bytes words.now) ended.cause) }
 {
     let alloc: Global = rt.alloc();
-    let mut texts = Vec::new(alloc);
-    for word in words {
-        texts.push(word.as_str())?;
-    }
+    let texts = texts_of(alloc, words)?;
     let mut inputs = HostInputs::new(rt.clone()?);
     let mut out = HostSink::new(rt.clone()?);
     Ok(run(alloc, texts.as_slice(), &mut inputs, &mut out))
@@ -58,7 +68,7 @@ fn run_on_host(rt: &HostRuntime, words: &[String]) -> io::Result<Ended>
 // How a run ended that did not come to its words.
 fn not_begun(error: &io::Error) -> Ended
     ensures status { result.status ≡ cause_status result.cause }
-    ensures told { (result.cause ≡ Cause.Memory) ⊎ (result.cause ≡ Cause.Words) }
+    ensures told { IsNotBegun result.cause }
 {
     let cause = match error.kind() {
         ErrorKind::OutOfMemory => Cause::Memory,
@@ -98,6 +108,7 @@ fn explain(rt: &HostRuntime, cause: &Cause, words: &[String]) {
 fn printed(answered: io::Result<bool>) -> Option<Cause>
     ensures done { answered ≡ Ok true ↔ result ≡ Some Cause.None }
     ensures unasked { answered ≡ Ok false ↔ result ≡ None }
+    ensures told { IfSome result (λ cause. IsPrinted cause) }
 {
     match answered {
         Ok(true) => Some(Cause::None),
@@ -112,6 +123,7 @@ fn printed(answered: io::Result<bool>) -> Option<Cause>
 // Does what the words ask for.
 fn attempt(rt: &HostRuntime, words: &[String]) -> Ended
     ensures status { result.status ≡ cause_status result.cause }
+    ensures ends { EndsAs (map string_bytes words.now) result.cause }
 {
     match printed(answer_word(rt, words)) {
         Some(cause) => Ended {

@@ -103,7 +103,7 @@ impl Streams {
         for (name, bytes) in &self.files {
             files.push((name.copy(alloc)?, bytes.copy(alloc)?))?;
         }
-        let mut inputs = MemInputs::new(files, numbers(alloc, fails)?);
+        let mut inputs = MemInputs::new(alloc, files, numbers(alloc, fails)?)?;
         asked(alloc, &mut inputs, name)
     }
 }

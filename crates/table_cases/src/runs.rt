@@ -82,7 +82,7 @@ impl Runs {
             files.push(entry(alloc, "a", file)?)?;
         }
         let fails = Vec::from_slice(alloc, &self.input_fails)?;
-        Ok(MemInputs::new(files, fails))
+        MemInputs::new(alloc, files, fails)
     }
 
     /// `run WORDS`: the status of a run of these words over the inputs, and what was put into a sink that
