@@ -2,7 +2,7 @@ ghost use Rattle.std.specs.Prelude.{IsTrue};
 ghost use Rattle.pk_values.specs.Schemas.{is_kind};
 
 use crate::fixtures::{column, text};
-use column_page::{PageFault, all_fit, decode_page, encode_page};
+use column_page::{PageFault, all_fit, decode_cell, decode_page, encode_page};
 use pk_values::{Column, Kind, Value};
 use std::alloc::{AllocError, Global};
 use std::process::Abort;
@@ -23,6 +23,8 @@ fn goes_both_ways(
     assert!(rt; encode_page(alloc, column, cells)?.as_slice() == page);
     let back = decode_page(alloc, column, cells.len() as u32, page)?;
     assert!(rt; back.as_slice() == cells);
+    let last = cells.len() as u32 - 1;
+    assert!(rt; decode_cell(alloc, column, last + 1, page, last)? == cells[last as usize]);
     Ok(())
 }
 

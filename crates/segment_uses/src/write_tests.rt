@@ -13,7 +13,7 @@ use std::process::Abort;
 use std::test::Fail;
 
 // The segment of these rows.
-fn written(rt: &impl Abort, alloc: Global, rows: &[Row]) -> Result<Made<Vec<u8>>, Fail> {
+fn written(rt: &impl Abort, alloc: Global, rows: &[Row]) -> Result<Made<Keeper>, Fail> {
     let schema = table(rt, alloc)?;
     assert!(rt; are_segment_rows(&schema, rows));
     let mut maker = Keeper::new(alloc, 0);
