@@ -1,9 +1,9 @@
 -- Rows in blocks, and what the footer tells of them.
-use Rattle.std.proofs.Common.{◌≡◌, ℕ, zero, suc, ◌+◌, ◌-◌, ◌*◌, ◌<◌, ◌≤◌, ◌^◌, min, List, [], ◌∷◌, length, take, drop, refl, sym, ap, ◌∙◌, subst, arith, Bool as Truth, true, IsTrue, None}
+use Rattle.std.proofs.Common.{◌≡◌, ℕ, zero, suc, ◌+◌, ◌-◌, ◌*◌, ◌<◌, ◌≤◌, ◌^◌, min, List, [], ◌∷◌, ◌++◌, length, length-append, take, drop, refl, sym, ap, ◌∙◌, subst, arith, Bool as Truth, true, IsTrue, None}
 use Rattle.std.specs.Prelude.{All, ◌==◌, nat_le}
-use Rattle.std.specs.List.{list_all}
+use Rattle.std.specs.List.{flat_map, list_all}
 use Rattle.std.proofs.lemmas.Bool.{and_from, eq-eqb, le-leb}
-use Rattle.std.proofs.lemmas.List.{length-drop, length-take}
+use Rattle.std.proofs.lemmas.List.{drop_at, length-drop, length-take}
 use Rattle.std.proofs.lemmas.List.Elements.{All-cons, All-drop, All-take}
 use Rattle.pk_values.specs.Schemas.{Layout, fits_row, schema_fault}
 use Rattle.pk_values.specs.SchemaFacts.{columns_within, keys_some, keys_within}
@@ -12,7 +12,7 @@ use Rattle.column_page.specs.Footers.{block_fits, blocks_fit, is_footer, span_ri
 use Rattle.column_page.specs.FooterReading.{BlockFits, FooterFits, IsSegmentFooter}
 use Rattle.column_page.specs.declared.footers.BlockMark.{BlockMark}
 use Rattle.column_page.specs.declared.footers.ColumnMark.{ColumnMark}
-use Rattle.segment_form.specs.Segments.{block_body, block_file, block_mark, block_marks, blocks_for, blocks_from, blocks_of, footer_of, marks_of, AreSegmentRows}
+use Rattle.segment_form.specs.Segments.{block_body, block_file, block_mark, block_marks, blocks_for, blocks_from, blocks_of, blocks_end, footer_of, marks_of, segment_file, tail_of, AreSegmentRows, EndsWith}
 use Rattle.segment_form.proofs.Bodies.{body_long, length-block_file}
 use Rattle.segment_form.proofs.Fitting.{columns_fit}
 use Rattle.segment_form.proofs.Marks.{length-marks_of, marks_fit, marks_rise}
@@ -133,3 +133,22 @@ segment_is_footer s rows lawful are =
 
 pub segment_footer_is : (s : Layout) (rows : List (List Value)) → schema_fault s.columns s.keys ≡ None → AreSegmentRows s rows → IsSegmentFooter (footer_of s rows)
 segment_footer_is s rows lawful are = record { is = segment_is_footer s rows lawful are; fits = segment_footer_fits s rows lawful are }
+
+-- ---- the file
+
+ends_told : (s : Layout) (at : ℕ) (bs : List (List (List Value))) → at + length (flat_map (block_file s) bs) ≡ blocks_end at (block_marks s at bs)
+ends_told s at [] = omega arith
+ends_told s at (b ∷ bs) =
+    let next = at + length (block_file s b) in
+    let here : at + length (block_file s b ++ flat_map (block_file s) bs) ≡ next + length (flat_map (block_file s) bs) = omega (arith, length-append (block_file s b) (flat_map (block_file s) bs)) in
+    let there : next ≡ at + length (block_body s b) + 32 = omega (arith, length-block_file s b) in
+    here ∙ ends_told s next bs ∙ ap (λ (k : ℕ). blocks_end k (block_marks s next bs)) there
+
+-- the file of rows ends with their footer
+pub ends_with_footer : (s : Layout) (rows : List (List Value)) → EndsWith (footer_of s rows) (segment_file s rows)
+ends_with_footer s rows =
+    drop_at (flat_map (block_file s) (blocks_of rows)) (tail_of (footer_of s rows)) (blocks_end 0 (block_marks s 0 (blocks_of rows)))
+    (none_before (length (flat_map (block_file s) (blocks_of rows))) ∙ ends_told s 0 (blocks_of rows))
+  where
+    none_before : (k : ℕ) → k ≡ 0 + k
+    none_before k = omega arith

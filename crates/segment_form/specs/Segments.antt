@@ -1,5 +1,5 @@
 -- The file of a segment, as its rows have it.
-use Rattle.std.specs.Prelude.{ℕ, zero, suc, ◌+◌, ◌/◌, ◌≤◌, List, [], ◌∷◌, ◌++◌, length, map, take, drop, get_or, All, IsTrue, ⊤}
+use Rattle.std.specs.Prelude.{◌≡◌, ℕ, zero, suc, ◌+◌, ◌/◌, ◌≤◌, List, [], ◌∷◌, ◌++◌, length, map, take, drop, get_or, All, IsTrue, ⊤}
 use Rattle.std.specs.List.{flat_map}
 use Rattle.std.specs.Ordering.{is_lt}
 use Rattle.sha2.specs.Sha256.{sha256}
@@ -71,6 +71,15 @@ footer_of s rows =
 -- a footer and its length
 abbrev pub tail_of : Footer → List ℕ
 tail_of f = footer_bytes f ++ u32_bytes (length (footer_bytes f))
+
+-- where blocks end that stand one after the other from a place on, each with its digest
+abbrev pub blocks_end : ℕ → List BlockMark → ℕ
+blocks_end at [] = at
+blocks_end at (b ∷ bs) = blocks_end (at + b.length + 32) bs
+
+-- behind as many bytes as its blocks have the file holds this footer and its length, and no more
+abbrev pub EndsWith : Footer → List ℕ → Type 0
+EndsWith f file = drop (blocks_end 0 f.blocks) file ≡ tail_of f
 
 -- the file of a segment: its blocks, its footer with its digest, and the footer's length
 abbrev pub segment_file : Layout → List (List Value) → List ℕ

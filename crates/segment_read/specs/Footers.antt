@@ -10,12 +10,8 @@ use Rattle.dev_traits.specs.declared.faults.Digest.{Digest}
 use Rattle.dev_traits.specs.declared.faults.Shown.{Shown}
 use Rattle.dev_traits.specs.declared.faults.Shown.TheVariants.{Digests, Form, Absent}
 use Rattle.segment_form.specs.Segments.{tail_of}
+pub use Rattle.segment_form.specs.Segments.{blocks_end}
 use Rattle.segment_read.specs.Blocks.{Differs}
-
--- where blocks end that stand one after the other from a place on, each with its digest
-abbrev pub blocks_end : ℕ → List BlockMark → ℕ
-blocks_end at [] = at
-blocks_end at (b ∷ bs) = blocks_end (at + b.length + 32) bs
 
 -- the footer of a table's file: it stands behind the blocks, and its length ends the file
 pub record HasFooter (s : Layout) (f : Footer) (file : List ℕ) : Type 0 where

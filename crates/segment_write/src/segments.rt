@@ -1,5 +1,5 @@
 ghost use Rattle.std.specs.Prelude.{◌≡◌, ℕ, List, Some, IfOk, OnOk, IsFalse, is_some};
-ghost use Rattle.segment_form.specs.Segments.{AreSegmentRows, block_marks, blocks_of, footer_of, segment_file, tail_of};
+ghost use Rattle.segment_form.specs.Segments.{AreSegmentRows, block_marks, blocks_of, footer_of, segment_file, tail_of, EndsWith};
 ghost use Rattle.dev_traits.specs.Causes.{HasMakeCause};
 
 use crate::blocks::put_blocks;
@@ -8,13 +8,14 @@ use dev_traits::{FileMaker, MakeFault};
 use pk_values::{Items, Row, Schema};
 use std::alloc::{AllocError, Global};
 
-/// A segment that was made.
+/// A segment that a maker made.
 #[derive(Drop)]
-pub struct Made<X> {
+pub struct Made<M: FileMaker> {
     /// The whole file, which a store adopts.
-    pub sealed: X,
+    pub sealed: M::Sealed,
     /// The footer that stands in the file.
     pub footer: Footer,
+    ghost ends: { (file : List ℕ) → M.sealed_bytes sealed ≡ Some file → EndsWith footer file },
 }
 
 // The footer of the rows of a segment, whose blocks have these marks.
@@ -63,7 +64,7 @@ pub fn write_segment<M: FileMaker>(
     maker: &mut M,
     schema: &Schema,
     rows: &[Row],
-) -> Result<Made<M::Sealed>, MakeFault>
+) -> Result<Made<M>, MakeFault>
     requires { AreSegmentRows schema.now rows.now }
     ensures footer { IfOk result (λ made. made.footer ≡ footer_of schema.now rows.now) }
     ensures sealed { IfOk result (λ made. (bytes : List ℕ) → M.sealed_bytes made.sealed ≡ Some bytes
