@@ -184,6 +184,8 @@ pub fn items(alloc: Global, words: &str) -> Result<String, AllocError> {
     items.reserve(1)?;
     let count = items.len();
     let first = items.as_slice().first().copied().unwrap_or(0);
-    let octets = Octets::from_vec(alloc, Items::from_vec(items.into_vec()).into_vec())?.copy(alloc)?;
+    let octets = Octets::from_vec(alloc, Items::from_vec(items.into_vec()).into_vec())?.copy(
+        alloc,
+    )?;
     format!(in alloc; "{was_empty} {count} {first} {:?}", octets.as_slice())
 }
