@@ -10,3 +10,4 @@ pub mod PageFacts
 pub mod SequenceFacts
 pub mod FooterFacts
 pub mod MarkFacts
+pub mod TextFacts

@@ -1,6 +1,6 @@
 pub mod CellBytes
 pub mod Page
-pub mod Words
+pub mod Texts
 pub mod Reading
 pub mod Footers
 pub mod FooterReading

@@ -1,9 +1,10 @@
 -- The page of cells, where each cell is given as its bytes.
-use Rattle.std.specs.Prelude.{◌≡◌, All, IsTrue, ⊤, ℕ, ◌+◌, nat_lt, if◌then◌else◌, Bool, true, false, List, [], ◌∷◌, ◌++◌, length, map}
+use Rattle.std.specs.Prelude.{◌≡◌, All, IsTrue, ⊤, ℕ, ◌+◌, nat_lt, if◌then◌else◌, Bool, true, false, List, [], ◌∷◌, ◌++◌, get_or, length, map}
 use Rattle.std.specs.List.{concat, flat_map}
 use Rattle.std.specs.Str.{bytes_eq}
 use Rattle.pk_values.specs.Fits.{fits}
 use Rattle.pk_values.specs.declared.cells.Value.{Value}
+use Rattle.pk_values.specs.declared.cells.Value.TheVariants.{Null}
 use Rattle.pk_values.specs.declared.cells.Column.{Column}
 use Rattle.column_page.specs.CellBytes.{cell_bytes, u16_bytes}
 
@@ -70,6 +71,10 @@ page cells = shorter (shorter (plain cells) (run_length cells)) (dictionary cell
 -- the page of a column's cells
 abbrev pub page_of : Column → List Value → List ℕ
 page_of column cells = page (map (cell_bytes column) cells)
+
+-- the cells of the column in place i
+abbrev pub column_cells : ℕ → List (List Value) → List Value
+column_cells i rows = map (λ row. get_or row i Null) rows
 
 -- each cell fits the column
 abbrev pub AllFit : Column → List Value → Type 0

@@ -1,11 +1,11 @@
 -- What a reader of pages finds: the only cells that can have written the bytes.
-use Rattle.std.specs.Prelude.{◌≡◌, ℕ, ◌≤◌, List, ◌++◌, length, take, drop, map, All, IsTrue, replicate}
+use Rattle.std.specs.Prelude.{◌≡◌, ℕ, ◌≤◌, List, ◌++◌, length, take, drop, map, All, IsTrue, replicate, slice_get, Some}
 use Rattle.std.specs.List.{concat, flat_map}
 use Rattle.pk_values.specs.Fits.{fits}
 use Rattle.pk_values.specs.declared.cells.Value.{Value}
 use Rattle.pk_values.specs.declared.cells.Column.{Column}
 use Rattle.column_page.specs.CellBytes.{cell_bytes}
-use Rattle.column_page.specs.Page.{AllFit, Cell, is_among, places, run_bytes}
+use Rattle.column_page.specs.Page.{AllFit, Cell, is_among, page_of, places, run_bytes}
 
 -- so many cells of a column as a page may hold
 pub record AreCells (column : Column) (count : ℕ) (cells : List Value) : Type 0 where
@@ -21,6 +21,13 @@ OnlyCells column count form bytes found = (cells : List Value) → AreCells colu
 -- no cells have the bytes
 abbrev pub NoCells : Column → ℕ → (List Cell → List ℕ) → List ℕ → Type 0
 NoCells column count form bytes = (cells : List Value) → AreCells column count cells → form (map (cell_bytes column) cells) ≡ bytes → ⊥
+
+-- the cell stands in a place of cells that have these bytes as their page
+pub record IsCellAt (column : Column) (count : ℕ) (bytes : List ℕ) (place : ℕ) (cell : Value) : Type 0 where
+  pub cells : List Value
+  pub are : AreCells column count cells
+  pub written : page_of column cells ≡ bytes
+  pub at : slice_get cells place ≡ Some cell
 
 -- these bytes are a cell of the column
 pub record IsCellOf (column : Column) (cell : Cell) : Type 0 where

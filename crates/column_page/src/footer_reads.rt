@@ -5,7 +5,7 @@ ghost use Rattle.column_page.specs.declared.footers.Span.{Span};
 ghost use Rattle.column_page.specs.declared.footers.ColumnMark.{ColumnMark};
 ghost use Rattle.column_page.specs.declared.footers.BlockMark.{BlockMark};
 ghost use Rattle.column_page.specs.declared.footers.FooterFields.{FooterFields};
-ghost use Rattle.column_page.specs.Footers.{block_bytes, footer_bytes, footer_fields, mark_bytes, u32_bytes, u64_bytes, wide_bytes};
+ghost use Rattle.column_page.specs.Footers.{block_bytes, footer_body, footer_fields, mark_bytes, u32_bytes, u64_bytes, wide_bytes};
 ghost use Rattle.column_page.specs.FooterReading.{BlockFits, FooterFits, MarkFits, SequenceThen, SpanFits};
 
 use crate::faults::FooterFault;
@@ -215,13 +215,13 @@ fn behind_form(bytes: &[u8]) -> Option<&[u8]>
     bytes.strip_prefix(b"PKSG\x01")
 }
 
-/// The one footer that can have written the bytes, whether or not it did.
-pub fn only_footer(alloc: Global, bytes: &[u8]) -> Result<FooterFields, FooterFault>
+/// The one footer whose bytes without the digest these can be, whether or not they are.
+pub fn only_footer(alloc: Global, body: &[u8]) -> Result<FooterFields, FooterFault>
     ensures fit { IfOk result (λ found. FooterFits found) }
-    ensures only { IfOk result (λ found. (f : FooterFields) → FooterFits f → footer_bytes f ≡ bytes.now → found ≡ f) }
-    ensures none { IfErr result (λ e. e ≡ FooterFault.NotAFooter → (f : FooterFields) → FooterFits f → footer_bytes f ≡ bytes.now → ⊥) }
+    ensures only { IfOk result (λ found. (f : FooterFields) → FooterFits f → footer_body f ≡ body.now → found ≡ f) }
+    ensures none { IfErr result (λ e. e ≡ FooterFault.NotAFooter → (f : FooterFields) → FooterFits f → footer_body f ≡ body.now → ⊥) }
 {
-    let Some(fields) = behind_form(bytes) else {
+    let Some(fields) = behind_form(body) else {
         return Err(FooterFault::NotAFooter);
     };
     let footer = read_fields(alloc, fields)?;

@@ -83,7 +83,8 @@ fn put_blocks(out: &mut Vec<u8>, blocks: &[BlockMark]) -> Result<(), AllocError>
     Ok(())
 }
 
-fn put_body(out: &mut Vec<u8>, footer: &FooterFields) -> Result<(), AllocError>
+/// Appends the bytes of a footer without its digest.
+pub fn put_body(out: &mut Vec<u8>, footer: &FooterFields) -> Result<(), AllocError>
     requires { length footer.now.blocks < 2 ^ 32 }
     ensures { OnOk result (out.new.items ≡ out.old.items ++ footer_body footer.now) }
 {

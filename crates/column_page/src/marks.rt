@@ -1,8 +1,9 @@
-ghost use Rattle.std.specs.Prelude.{◌≡◌};
+ghost use Rattle.std.specs.Prelude.{◌≡◌, ◌<◌, All, length};
 ghost use Rattle.column_page.specs.Footers.{cell_number, mark_of, with_cell, with_number};
+ghost use Rattle.column_page.specs.Page.{column_cells};
 
 use crate::footers::{ColumnMark, Span};
-use pk_values::Value;
+use pk_values::{Row, Value};
 
 // The number of a cell, if it has one.
 fn number_of(value: &Value) -> Option<i128>
@@ -61,6 +62,24 @@ pub fn mark_of(cells: &[Value]) -> ColumnMark
     while left > 0 {
         left -= 1;
         mark = with_one(&cells[left], mark);
+    }
+    mark
+}
+
+/// The mark of the column in a place, counted from 0, of the rows of a block.
+pub fn column_mark(place: usize, rows: &[Row]) -> ColumnMark
+    requires { All (λ row. place < length row) rows.now }
+    ensures { result ≡ mark_of (column_cells place rows.now) }
+{
+    let mut mark = ColumnMark {
+        nulls: false,
+        span: None,
+    };
+    let mut left = rows.len();
+    while left > 0 {
+        left -= 1;
+        let row = &rows[left];
+        mark = with_one(&row.cells[place], mark);
     }
     mark
 }

@@ -1,16 +1,17 @@
-ghost use Rattle.std.specs.Prelude.{◌≡◌, ◌≤◌, ◌<◌, ◌^◌, List, IfErr, IfOk, IsTrue, ◌↔◌, length, map};
+ghost use Rattle.std.specs.Prelude.{◌≡◌, ◌≤◌, ◌<◌, ◌^◌, All, List, IfErr, IfNone, IfOk, IfSome, IsTrue, ◌↔◌, Some, length, map, slice_get};
 ghost use Rattle.pk_values.specs.Schemas.{is_kind};
 ghost use Rattle.pk_values.specs.declared.cells.Value.{Value};
 ghost use Rattle.column_page.specs.CellBytes.{cell_bytes};
-ghost use Rattle.column_page.specs.Page.{dictionary, page, page_of, shorter, AllFit};
-ghost use Rattle.column_page.specs.Reading.{AreCells, NoCells, OnlyCells};
+ghost use Rattle.column_page.specs.Page.{column_cells, page, page_of, plain, shorter, AllFit, Cell};
+ghost use Rattle.column_page.specs.Texts.{lent, AreTexts, HaveTexts};
+ghost use Rattle.column_page.specs.Reading.{AreCells, IsCellAt, NoCells, OnlyCells};
 
 use crate::decode::{read_dictionary, read_plain, read_runs};
 use crate::faults::PageFault;
-use crate::plain::{cell_texts, plain_page};
-use crate::runs::run_page;
+use crate::runs::runs_within;
+use crate::texts::{Texts, column_texts, pieces, texts_of};
 use crate::words::dictionary_within;
-use pk_values::{Column, Octets, Value};
+use pk_values::{Column, Octets, Row, Value};
 use std::alloc::{AllocError, Global};
 
 /// Whether each cell fits the column.
@@ -21,25 +22,49 @@ pub fn all_fit(column: &Column, cells: &[Value]) -> bool
 }
 
 // The shorter of two texts, the first where they are equally long.
-fn shorter_of(first: Vec<u8>, second: Vec<u8>) -> Vec<u8>
-    ensures { result.items ≡ shorter first.items second.items }
+fn shorter_of(first: Vec<u8>, second: Option<Vec<u8>>) -> Vec<u8>
+    ensures some { IfSome second (λ second. result.items ≡ shorter first.items second.items) }
+    ensures none { IfNone second (result ≡ first) }
 {
-    if second.len() < first.len() {
-        second
-    } else {
-        first
+    match second {
+        Some(second) if second.len() < first.len() => second,
+        _ => first,
     }
 }
 
-// The shorter of a form of the cells and their dictionary form.
-fn with_dictionary(alloc: Global, first: Vec<u8>, texts: &[Octets]) -> Result<Vec<u8>, AllocError>
-    requires { length texts.now < 2 ^ 16 }
-    ensures { IfOk result (λ page. page.items ≡ shorter first.items (dictionary texts.now)) }
+// The plain form of the cells.
+fn plain_page(alloc: Global, cells: &[&[u8]]) -> Result<Vec<u8>, AllocError>
+    ensures { IfOk result (λ page. page.items ≡ plain (lent cells.now)) }
 {
-    match dictionary_within(alloc, texts, first.len())? {
-        Some(second) => Ok(shorter_of(first, second)),
-        None => Ok(first),
+    let mut page = Vec::new(alloc);
+    page.push(0)?;
+    for cell in cells {
+        page.extend_from_slice(cell)?;
     }
+    Ok(page)
+}
+
+// The page of the cells with these bytes.
+fn page_of_pieces(alloc: Global, cells: &[&[u8]]) -> Result<Vec<u8>, AllocError>
+    requires { length cells.now < 2 ^ 16 }
+    ensures { IfOk result (λ found. found.items ≡ page (lent cells.now)) }
+{
+    let plain = plain_page(alloc, cells)?;
+    let runs = runs_within(alloc, cells, plain.len())?;
+    let least = shorter_of(plain, runs);
+    let dictionary = dictionary_within(alloc, cells, least.len())?;
+    Ok(shorter_of(least, dictionary))
+}
+
+// The page of 1 to 1,024 cells with these bytes.
+fn page_of_texts(alloc: Global, texts: &Texts) -> Result<Octets, AllocError>
+    requires have { HaveTexts texts.now.bytes.items texts.now.lens.items }
+    requires few { length texts.now.lens.items ≤ 1024 }
+    ensures { IfOk result (λ found. (cells : List Cell) → AreTexts texts.now.bytes.items texts.now.lens.items cells → found ≡ page cells) }
+{
+    let pieces = pieces(alloc, &texts.bytes, &texts.lens)?;
+    let page = page_of_pieces(alloc, &pieces)?;
+    Octets::from_vec(alloc, page)
 }
 
 /// The page of 1 to 1,024 cells that fit the column: the shortest of the plain form (`00`, then each
@@ -54,11 +79,26 @@ pub fn encode_page(alloc: Global, column: &Column, cells: &[Value]) -> Result<Oc
     requires fits { AllFit column.now cells.now }
     ensures { IfOk result (λ page. page ≡ page_of column.now cells.now) }
 {
-    let texts = cell_texts(alloc, column, cells)?;
-    let plain = plain_page(alloc, &texts)?;
-    let runs = run_page(alloc, &texts)?;
-    let page = with_dictionary(alloc, shorter_of(plain, runs), &texts)?;
-    Octets::from_vec(alloc, page)
+    let texts = texts_of(alloc, column, cells)?;
+    page_of_texts(alloc, &texts)
+}
+
+/// The page of the cells of the column in a place, counted from 0, of 1 to 1,024 rows.
+pub fn encode_column(
+    alloc: Global,
+    column: &Column,
+    place: usize,
+    rows: &[Row],
+) -> Result<Octets, AllocError>
+    requires kind { IsTrue (is_kind column.now.kind) }
+    requires some { 1 ≤ length rows.now }
+    requires few { length rows.now ≤ 1024 }
+    requires there { All (λ row. place < length row) rows.now }
+    requires fits { AllFit column.now (column_cells place rows.now) }
+    ensures { IfOk result (λ page. page ≡ page_of column.now (column_cells place rows.now)) }
+{
+    let texts = column_texts(alloc, column, place, rows)?;
+    page_of_texts(alloc, &texts)
 }
 
 // The cells that the bytes are the page of, if any cells have this page.
@@ -140,4 +180,36 @@ pub fn decode_page(
     } else {
         Err(PageFault::NotAPage)
     }
+}
+
+// The value in a place.
+fn take_value(mut values: Vec<Value>, place: usize) -> Value
+    requires { place < length values.items }
+    ensures { slice_get values.items place ≡ Some result }
+{
+    values.swap_remove(place)
+}
+
+/// The cell in a place, counted from 0, of the cells of the column that have this page, of which
+/// there are `count`.
+///
+/// # Errors
+/// Those of `decode_page`: all of the page is looked at.
+pub fn decode_cell(
+    alloc: Global,
+    column: &Column,
+    count: u32,
+    bytes: &[u8],
+    place: u32,
+) -> Result<Value, PageFault>
+    requires kind { IsTrue (is_kind column.now.kind) }
+    requires there { place < count }
+    ensures cell { IfOk result (λ cell. IsCellAt column.now count bytes.now place cell) }
+
+    // All cells that have this page have it there.
+    ensures only { IfOk result (λ cell. (cells : List Value) → AreCells column.now count cells → page_of column.now cells ≡ bytes.now → slice_get cells place ≡ Some cell) }
+    ensures none { IfErr result (λ e. e ≡ PageFault.NotAPage → NoCells column.now count page bytes.now) }
+{
+    let cells = decode_page(alloc, column, count, bytes)?;
+    Ok(take_value(cells, place as usize))
 }

@@ -1,18 +1,18 @@
-ghost use Rattle.std.specs.Prelude.{◌≡◌, ◌+◌, ◌≤◌, ◌<◌, ◌^◌, ◌++◌, OnOk, IfOk, length, replicate, drop};
+ghost use Rattle.std.specs.Prelude.{◌≡◌, ◌+◌, ◌≤◌, ◌<◌, ◌^◌, ◌++◌, OnOk, IfNone, IfOk, IfSome, length, replicate, drop};
 ghost use Rattle.column_page.specs.Page.{run_bytes, run_length, FirstDiffers};
+ghost use Rattle.column_page.specs.Texts.{lent};
 
 use crate::values::put_u16;
-use pk_values::Octets;
 use std::alloc::{AllocError, Global};
 
 // How many cells at the front equal a cell.
-fn run_len(cells: &[Octets], first: &[u8]) -> usize
+fn run_len(cells: &[&[u8]], first: &[u8]) -> usize
     ensures within { result ≤ length cells.now }
-    ensures equal { cells.now ≡ replicate result first.now ++ drop result cells.now }
-    ensures longest { FirstDiffers first.now (drop result cells.now) }
+    ensures equal { lent cells.now ≡ replicate result first.now ++ drop result (lent cells.now) }
+    ensures longest { FirstDiffers first.now (drop result (lent cells.now)) }
 {
     for i in 0..cells.len() {
-        if cells[i].as_slice() != first {
+        if cells[i] != first {
             return i;
         }
     }
@@ -27,16 +27,24 @@ fn put_run(out: &mut Vec<u8>, len: u16, cell: &[u8]) -> Result<(), AllocError>
     out.extend_from_slice(cell)
 }
 
-/// The run-length form of the cells.
-pub fn run_page(alloc: Global, cells: &[Octets]) -> Result<Vec<u8>, AllocError>
+/// The run-length form of the cells; None only where it has `most` bytes or more.
+pub fn runs_within(
+    alloc: Global,
+    cells: &[&[u8]],
+    most: usize,
+) -> Result<Option<Vec<u8>>, AllocError>
     requires { length cells.now < 2 ^ 16 }
-    ensures { IfOk result (λ page. page.items ≡ run_length cells.now) }
+    ensures some { IfOk result (λ found. IfSome found (λ page. page.items ≡ run_length (lent cells.now))) }
+    ensures none { IfOk result (λ found. IfNone found (most ≤ length (run_length (lent cells.now)))) }
 {
     let mut body = Vec::new(alloc);
     let mut count: u16 = 0;
     let mut start = 0;
     while start < cells.len() {
-        let first = cells[start].as_slice();
+        if body.len() >= most {
+            return Ok(None);
+        }
+        let first = cells[start];
         let len = run_len(&cells[start..], first);
         put_run(&mut body, len as u16, first)?;
         count += 1;
@@ -46,5 +54,5 @@ pub fn run_page(alloc: Global, cells: &[Octets]) -> Result<Vec<u8>, AllocError>
     page.push(1)?;
     put_u16(&mut page, count)?;
     page.extend_from_slice(&body)?;
-    Ok(page)
+    Ok(Some(page))
 }

@@ -3,3 +3,5 @@ pub mod KeyOrder
 pub mod KeyLemmas
 pub mod DecodeLemmas
 pub mod PrefixOrder
+pub mod Drafting
+pub mod Lengths

@@ -1,6 +1,10 @@
 -- Texts that more follows in a code.
 use Rattle.std.specs.Prelude.{ℕ, ◌==◌, if◌then◌else◌, List, [], ◌∷◌, Option, Some, None, option_map}
 
+-- a byte of a text that more follows: 00 as 00 01
+abbrev pub escaped_byte : ℕ → List ℕ
+escaped_byte c = if c == 0 then 0 ∷ 1 ∷ [] else c ∷ []
+
 -- a text that more follows: each byte 00 as 00 01, and 00 00 at the end
 abbrev pub escaped : List ℕ → List ℕ
 escaped [] = 0 ∷ 0 ∷ []

@@ -56,7 +56,8 @@ key_code s key = cells_code (take s.keys s.columns) key
 
 -- the code compares with the code of each key as the keys do
 abbrev pub IsInOrder : Layout → List Value → List ℕ → Type 0
-IsInOrder s key code = (other : List Value) → IsTrue (fits_key s other) → slice_cmp nat_cmp code (key_code s other) ≡ key_cmp key other
+IsInOrder s key code =
+    (other : List Value) → IsTrue (fits_key s other) → slice_cmp nat_cmp code (key_code s other) ≡ key_cmp key other
 
 -- no other key has this code
 abbrev pub IsOnlyCodeOf : Layout → List Value → List ℕ → Type 0

@@ -5,3 +5,4 @@ pub mod Keys
 pub mod Reads
 pub mod Shapes
 pub mod Prefixes
+pub mod Drafts

@@ -1,19 +1,31 @@
-ghost use Rattle.std.specs.Prelude.{◌≡◌, ◌++◌, ◌≤◌, length, IfOk, IfSome, OnOk, option_map, drop};
-ghost use Rattle.key_code.specs.Escapes.{escaped, unescaped};
+ghost use Rattle.std.specs.Prelude.{◌≡◌, ◌≤◌, ◌<◌, ◌+◌, ◌^◌, length, IfOk, IfSome, option_map, drop};
+ghost use Rattle.key_code.specs.Drafts.{with_more};
+ghost use Rattle.key_code.specs.Escapes.{escaped, escaped_byte, unescaped};
 
+use crate::drafts::CodeDraft;
 use std::alloc::{AllocError, Global};
 
+// Appends a byte that is not the last of its text.
+fn push_inner(out: &mut CodeDraft, c: u8)
+    requires { out.old.count + length (escaped_byte c) < 2 ^ 64 }
+    ensures { out.new ≡ with_more out.old (escaped_byte c) }
+{
+    if c == 0 {
+        out.extend(&[0, 1]);
+    } else {
+        out.push(c);
+    }
+}
+
 /// Appends a text that more follows: each byte 00 as 00 01, and 00 00 at the end.
-pub fn push_escaped(out: &mut Vec<u8>, text: &[u8]) -> Result<(), AllocError>
-    ensures { OnOk result (out.new.items ≡ out.old.items ++ escaped text.now) }
+pub fn push_escaped(out: &mut CodeDraft, text: &[u8])
+    requires { out.old.count + length (escaped text.now) < 2 ^ 64 }
+    ensures { out.new ≡ with_more out.old (escaped text.now) }
 {
     for c in text {
-        out.push(*c)?;
-        if *c == 0 {
-            out.push(1)?;
-        }
+        push_inner(out, *c);
     }
-    out.extend_from_slice(&[0, 0])
+    out.extend(&[0, 0]);
 }
 
 /// The text at the front of the bytes and how many bytes it and its end mark take, if one stands there.

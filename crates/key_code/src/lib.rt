@@ -2,6 +2,7 @@
 #![tactic(auto)]
 
 mod decoding;
+mod drafts;
 mod encoding;
 mod escape;
 mod faults;

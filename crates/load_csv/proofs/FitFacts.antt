@@ -13,7 +13,7 @@ use Rattle.load_csv.specs.declared.loads.LoadFault.{LoadFault}
 use Rattle.load_csv.specs.declared.headers.Field.{Field}
 use Rattle.load_csv.specs.declared.headers.Field.TheVariants as field
 use Rattle.load_csv.specs.Results.{◌and_then◌}
-use Rattle.load_csv.specs.Headers.{is_same, missing_from}
+use Rattle.load_csv.specs.Headers.{is_same, missing_from, wanted}
 use Rattle.load_csv.specs.Lines.{cell_at, cell_in, cells_of, if_fits, is_read, no_cells, with_cell, with_field, with_fields}
 
 -- ---- tests
@@ -202,15 +202,42 @@ none_missing fields i (c ∷ cs) h k l = by_test (list_any (is_same (field.Colum
     by_test true t h zero l later = at (i + zero) i (omega arith) t
     by_test true t h (suc k) l later = at (i + suc k) (i + 1 + k) (omega arith) (later h k (omega arith))
 
--- every column that a row reads has a cell that fits it
+-- every column that the file gives and a row reads has a cell that fits it
 pub cells-hold : (s : Layout) (fields : List Field) (n : ℕ) (delete : Bool) (texts : List (List ℕ)) (cells : List Value)
-    → missing_from fields 0 s.columns ≡ None → length texts ≡ length fields → cells_of s fields n delete texts ≡ Ok cells
-    → (k : ℕ) (col : Column) → slice_get s.columns k ≡ Some col → is_read s delete k ≡ true → holds col (slice_get cells k) ≡ true
-cells-hold s fields n delete texts cells whole l e k col g r =
-    let same : 0 + k ≡ k = omega arith in
-    let named : list_any (is_same (field.Column k)) fields ≡ true =
-    subst (λ p. list_any (is_same (field.Column p)) fields ≡ true) same (none_missing fields 0 s.columns whole k (slice_get_within s.columns k col g)) in
+    → length texts ≡ length fields → cells_of s fields n delete texts ≡ Ok cells
+    → (k : ℕ) (col : Column) → slice_get s.columns k ≡ Some col → list_any (is_same (field.Column k)) fields ≡ true → is_read s delete k ≡ true → holds col (slice_get cells k) ≡ true
+cells-hold s fields n delete texts cells l e k col g named r =
     read-holds s n delete 1 k col (no_cells s) cells fields texts g r l (length-no_cells s) (rw named (or_true (holds col (slice_get (no_cells s) k)))) e
+
+within-take : {X : Type 0} (n : ℕ) (xs : List X) (k : ℕ) → k < n → k < length xs → k < length (take n xs)
+within-take zero xs k h l = absurd (omega arith)
+within-take (suc n) [] k h l = l
+within-take (suc n) (x ∷ xs) zero h l = omega arith
+within-take (suc n) (x ∷ xs) (suc k) h l = let rest = within-take n xs k (omega arith) (omega arith) in omega (arith, rest)
+
+-- each column of the key is given
+pub key-given : (s : Layout) (fields : List Field) → missing_from fields 0 (take s.keys s.columns) ≡ None → (k : ℕ) (col : Column) → slice_get s.columns k ≡ Some col → k < s.keys
+    → list_any (is_same (field.Column k)) fields ≡ true
+key-given s fields h k col g m =
+    let same : 0 + k ≡ k = omega arith in
+    subst (λ p. list_any (is_same (field.Column p)) fields ≡ true) same
+    (none_missing fields 0 (take s.keys s.columns) h k (within-take s.keys s.columns k m (slice_get_within s.columns k col g)))
+
+-- where no column is missing, none of the first is
+missing-take : (fields : List Field) (n i : ℕ) (cs : List Column) → missing_from fields i cs ≡ None → missing_from fields i (take n cs) ≡ None
+missing-take fields zero i cs h = refl
+missing-take fields (suc n) i [] h = refl
+missing-take fields (suc n) i (c ∷ cs) h = by (list_any (is_same (field.Column i)) fields) h (missing-take fields n (i + 1) cs)
+  where
+    by : (t : Bool) → (if t then missing_from fields (i + 1) cs else Some i) ≡ None → (missing_from fields (i + 1) cs ≡ None → missing_from fields (i + 1) (take n cs) ≡ None)
+        → (if t then missing_from fields (i + 1) (take n cs) else Some i) ≡ None
+    by true h later = later h
+    by false h later = cc h
+
+-- a header that names what it must names the key
+pub names-key : (s : Layout) (partial : Bool) (fields : List Field) → missing_from fields 0 (wanted s partial) ≡ None → missing_from fields 0 (take s.keys s.columns) ≡ None
+names-key s true fields h = h
+names-key s false fields h = missing-take fields s.keys 0 s.columns h
 
 pub cells-width : (s : Layout) (fields : List Field) (n : ℕ) (delete : Bool) (texts : List (List ℕ)) (cells : List Value) → cells_of s fields n delete texts ≡ Ok cells → length cells ≡ length s.columns
 cells-width s fields n delete texts cells e = with_fields-width s n delete 1 (no_cells s) cells fields texts e ∙ length-no_cells s
@@ -231,6 +258,7 @@ reads_key s false k l = refl
 
 -- the first cells of a row are a key
 pub key-fits : (s : Layout) (fields : List Field) (n : ℕ) (delete : Bool) (texts : List (List ℕ)) (cells : List Value)
-    → missing_from fields 0 s.columns ≡ None → length texts ≡ length fields → cells_of s fields n delete texts ≡ Ok cells → fits_key s (take s.keys cells) ≡ true
-key-fits s fields n delete texts cells whole l e =
-    keys-fit s.keys s.columns cells (cells-width s fields n delete texts cells e) (λ k col g m. cells-hold s fields n delete texts cells whole l e k col g (reads_key s delete k m))
+    → missing_from fields 0 (take s.keys s.columns) ≡ None → length texts ≡ length fields → cells_of s fields n delete texts ≡ Ok cells → fits_key s (take s.keys cells) ≡ true
+key-fits s fields n delete texts cells keys l e =
+    keys-fit s.keys s.columns cells (cells-width s fields n delete texts cells e)
+    (λ k col g m. cells-hold s fields n delete texts cells l e k col g (key-given s fields keys k col g m) (reads_key s delete k m))

@@ -1,6 +1,6 @@
 -- A load says what a file has under the names of its header.
-use Rattle.std.proofs.Common.{◌≡◌, ◌≢◌, refl, ap, sym, subst, ◌∙◌, ℕ, suc, zero, ◌+◌, ◌<◌, ◌≤◌, List, [], ◌∷◌, ◌++◌, length, take, map, Option, Some, None, Result, Ok, Err, Bool, true, false, ◌||◌, ◌==◌, if◌then◌else◌, nat_lt, arith, append_assoc, append-nil}
-use Rattle.std.specs.Prelude.{slice_get, slice_set, option_and_then, option_map, nat_eq, IfOk, ⊤}
+use Rattle.std.proofs.Common.{◌≡◌, ◌≢◌, refl, ap, sym, subst, ◌∙◌, ℕ, suc, zero, ◌+◌, ◌<◌, ◌≤◌, List, [], ◌∷◌, ◌++◌, length, take, drop, map, Option, Some, None, Result, Ok, Err, Bool, true, false, ◌||◌, ◌==◌, if◌then◌else◌, nat_lt, arith, append_assoc, append-nil}
+use Rattle.std.specs.Prelude.{filter, slice_get, slice_set, option_and_then, option_map, nat_eq, IfOk, ⊤}
 use Rattle.std.specs.List.{list_any, position, position_or_len}
 use Rattle.std.specs.Cmp.Lexicographic.{pointwise, bytes_decides}
 use Rattle.std.proofs.lemmas.Bool.{or_from, or_parts}
@@ -22,11 +22,12 @@ use Rattle.load_csv.specs.declared.loads.LoadFault.TheVariants as fault
 use Rattle.load_csv.specs.declared.headers.Field.{Field}
 use Rattle.load_csv.specs.declared.headers.Field.TheVariants as field
 use Rattle.load_csv.specs.Results.{◌and_then◌}
-use Rattle.load_csv.specs.Headers.{field_named, fields_after, is_same, missing_from, new_field, op_name, unless_missing}
-use Rattle.load_csv.specs.Lines.{cell_at, cell_in, cells_of, is_delete, is_read, line_of, line_of_cells, line_told, line_with, no_cells, with_cell, with_field, with_fields}
-use Rattle.load_csv.specs.Loads.{lines_after, load_of, load_of_records, load_of_rows, most_rows, others, records_of, row_of, whole_load}
-use Rattle.load_csv.specs.Named.{SaysFile, SaysRow, SaysRows, cell_under, deletes, text_under}
-use Rattle.load_csv.proofs.FitFacts.{cells-width, equal_itself, get-set, get-set_other, length-no_cells, ltb-true, none_missing, same_number, with_field-width}
+use Rattle.load_csv.specs.Headers.{field_named, fields_after, is_same, missing_from, new_field, op_name, unfilled_from, unless_missing, unless_unfilled, wanted, with_defaults, with_wanted}
+use Rattle.load_csv.specs.Lines.{cell_at, cell_in, cells_of, is_delete, is_read, line_of, line_of_cells, line_told, line_with, marks, no_cells, pick, with_cell, with_field, with_fields}
+use Rattle.load_csv.specs.Loads.{given_in, lines_after, load_of, load_of_records, load_of_rows, load_with, most_rows, places, records_of, row_of}
+use Rattle.load_csv.specs.Named.{SaysFile, SaysRow, SaysRows, cell_under, deletes, is_named, text_under}
+use Rattle.load_csv.proofs.FitFacts.{cells-width, equal_itself, get-drop, get-set, get-set_other, key-given, length-no_cells, ltb-true, names-key, same_number, with_field-width}
+use Rattle.load_csv.proofs.LoadFacts.{at-place}
 use Rattle.load_csv.proofs.LawfulFacts.{not_longer, same_width}
 
 -- ---- places
@@ -303,43 +304,151 @@ all_cells cell cs vs l h =
 
 -- ---- lines
 
-module _ (s : Layout) (names : List (List ℕ)) (fields : List Field) (valid : schema_fault s.columns s.keys ≡ None) (named : Named s names fields) (apart : Apart fields) (whole : missing_from fields 0 s.columns ≡ None) where
+-- a column's name stands in a header where a field stands for the column
+named_given : (s : Layout) (name : List ℕ) (f : Field) → ((n : List ℕ) (g : Field) → field_named s n ≡ Some g → is_word n name ≡ is_same f g)
+    → (names : List (List ℕ)) (fields : List Field) → Named s names fields → list_any (λ n. is_word n name) names ≡ list_any (is_same f) fields
+unfolding Named
+named_given s name f h [] [] n = refl
+named_given s name f h [] (g ∷ fields) n = absurd n
+named_given s name f h (m ∷ names) [] n = absurd n
+named_given s name f h (m ∷ names) (g ∷ fields) n =
+    let first = h m g n.0 in
+    let rest = named_given s name f h names fields n.1 in
+    λ i. first i || rest i
+
+-- what is picked of cells says what the named columns among these say
+picked-say : {Y : Type 0} (named : Column → Bool) (cell : Column → Option Y) (fields : List Field) (i : ℕ) (cs : List Column) (vs : List Y) → length vs ≡ length cs
+    → ((k : ℕ) (c : Column) → slice_get cs k ≡ Some c → named c ≡ list_any (is_same (field.Column (i + k))) fields)
+    → ((k : ℕ) (c : Column) → slice_get cs k ≡ Some c → list_any (is_same (field.Column (i + k))) fields ≡ true → slice_get vs k ≡ cell c)
+    → map cell (filter named cs) ≡ map Some (pick (marks fields i cs) vs)
+picked-say named cell fields i [] [] l h g = refl
+picked-say named cell fields i [] (v ∷ vs) l h g = refl
+picked-say named cell fields i (c ∷ cs) [] l h g = absurd (omega arith)
+picked-say named cell fields i (c ∷ cs) (v ∷ vs) l h g =
+    by (list_any (is_same (field.Column i)) fields) (named c) mark here (picked-say named cell fields (i + 1) cs vs (omega arith) later held)
+  where
+    none : i + zero ≡ i
+    none = omega arith
+
+    mark : named c ≡ list_any (is_same (field.Column i)) fields
+    mark = h zero c refl ∙ ap (λ p. list_any (is_same (field.Column p)) fields) none
+
+    here : list_any (is_same (field.Column i)) fields ≡ true → Some v ≡ cell c
+    here t = g zero c refl (subst (λ p. list_any (is_same (field.Column p)) fields ≡ true) (sym none) t)
+
+    later : (k : ℕ) (d : Column) → slice_get cs k ≡ Some d → named d ≡ list_any (is_same (field.Column (i + 1 + k))) fields
+    later k d e =
+        let same : i + suc k ≡ i + 1 + k = omega arith in
+        h (suc k) d e ∙ ap (λ p. list_any (is_same (field.Column p)) fields) same
+
+    held : (k : ℕ) (d : Column) → slice_get cs k ≡ Some d → list_any (is_same (field.Column (i + 1 + k))) fields ≡ true → slice_get vs k ≡ cell d
+    held k d e t =
+        let same : i + suc k ≡ i + 1 + k = omega arith in
+        g (suc k) d e (subst (λ p. list_any (is_same (field.Column p)) fields ≡ true) (sym same) t)
+
+    by : (t n : Bool) → n ≡ t → (t ≡ true → Some v ≡ cell c) → map cell (filter named cs) ≡ map Some (pick (marks fields (i + 1) cs) vs)
+        → map cell (if n then c ∷ filter named cs else filter named cs) ≡ map Some (if t then v ∷ pick (marks fields (i + 1) cs) vs else pick (marks fields (i + 1) cs) vs)
+    by true true e is rest = ap (λ (o : Option _). o ∷ map cell (filter named cs)) (sym (is refl)) ∙ ap (λ os. Some v ∷ os) rest
+    by true false e is rest = cc e
+    by false true e is rest = cc e
+    by false false e is rest = rest
+
+-- where the first n are marked, what is picked begins with them
+pick-key : {Y : Type 0} (fields : List Field) (n i : ℕ) (cs : List Column) (vs : List Y) → length vs ≡ length cs → ((k : ℕ) → k < n → k < length cs → list_any (is_same (field.Column (i + k))) fields ≡ true)
+    → pick (marks fields i cs) vs ≡ take n vs ++ pick (marks fields (i + n) (drop n cs)) (drop n vs)
+pick-key fields zero i cs vs l h = let none : i ≡ i + zero = omega arith in ap (λ p. pick (marks fields p cs) vs) none
+pick-key fields (suc n) i [] [] l h = refl
+pick-key fields (suc n) i [] (v ∷ vs) l h = absurd (omega arith)
+pick-key fields (suc n) i (c ∷ cs) [] l h = absurd (omega arith)
+pick-key fields (suc n) i (c ∷ cs) (v ∷ vs) l h =
+    by (list_any (is_same (field.Column i)) fields) here (pick-key fields n (i + 1) cs vs (omega arith) (λ k m w.
+    let same : i + suc k ≡ i + 1 + k = omega arith in subst (λ p. list_any (is_same (field.Column p)) fields ≡ true) same (h (suc k) (omega arith) (omega arith))))
+  where
+    here : list_any (is_same (field.Column i)) fields ≡ true
+    here = let none : i + zero ≡ i = omega arith in subst (λ p. list_any (is_same (field.Column p)) fields ≡ true) none (h zero (omega arith) (omega arith))
+
+    by : (t : Bool) → t ≡ true → pick (marks fields (i + 1) cs) vs ≡ take n vs ++ pick (marks fields (i + 1 + n) (drop n cs)) (drop n vs)
+        → (if t then v ∷ pick (marks fields (i + 1) cs) vs else pick (marks fields (i + 1) cs) vs) ≡ v ∷ (take n vs ++ pick (marks fields (i + suc n) (drop n cs)) (drop n vs))
+    by true e later =
+        let same : i + 1 + n ≡ i + suc n = omega arith in
+        ap (λ xs. v ∷ xs) later ∙ ap (λ p. v ∷ (take n vs ++ pick (marks fields p (drop n cs)) (drop n vs))) same
+    by false e later = cc e
+
+module _ (s : Layout) (names : List (List ℕ)) (fields : List Field) (valid : schema_fault s.columns s.keys ≡ None) (named : Named s names fields) (apart : Apart fields) (keys : missing_from fields 0 (take s.keys s.columns) ≡ None) where
   -- the cells of a row
   cell-says : (n : ℕ) (delete : Bool) (texts : List (List ℕ)) (cells : List Value) → length texts ≡ length fields → cells_of s fields n delete texts ≡ Ok cells
-      → (k : ℕ) (c : Column) → slice_get s.columns k ≡ Some c → is_read s delete k ≡ true → slice_get cells k ≡ cell_under names texts c
-  cell-says n delete texts cells l e k c at read =
+      → (k : ℕ) (c : Column) → slice_get s.columns k ≡ Some c → list_any (is_same (field.Column k)) fields ≡ true → is_read s delete k ≡ true → slice_get cells k ≡ cell_under names texts c
+  cell-says n delete texts cells l e k c at told read =
       let within : k < length s.columns = slice_get_within s.columns k c at in
       let width = length-no_cells s in
-      let same : 0 + k ≡ k = omega arith in
-      let told : list_any (is_same (field.Column k)) fields ≡ true = subst (λ (p : ℕ). list_any (is_same (field.Column p)) fields ≡ true) same (none_missing fields 0 s.columns whole k within) in
       cell-text s n delete k c at read 1 (no_cells s) cells fields texts apart told l (omega arith) e
       ∙ ap (option_and_then (cell_in c)) (sym (under_name s c.name (field.Column k) (same_column s k c valid at) names fields texts named))
+
+  -- a column is named where a field stands for it
+  is-named : (k : ℕ) (c : Column) → slice_get s.columns k ≡ Some c → is_named names c ≡ list_any (is_same (field.Column k)) fields
+  is-named k c at = named_given s c.name (field.Column k) (same_column s k c valid at) names fields named
 
   deletes-says : (texts : List (List ℕ)) (delete : Bool) → is_delete fields texts ≡ Some delete → deletes (text_under names texts op_name) ≡ Some delete
   deletes-says texts delete e = ap deletes (under_name s op_name field.Op (same_op s) names fields texts named) ∙ sym (deletes-text fields texts) ∙ e
 
   cells-say : (n : ℕ) (delete : Bool) (texts : List (List ℕ)) (cells : List Value) → length texts ≡ length fields → is_delete fields texts ≡ Some delete → cells_of s fields n delete texts ≡ Ok cells
-      → SaysRow s names texts (line_of_cells s delete cells)
+      → SaysRow s names texts (line_of_cells s fields delete cells)
   cells-say n true texts cells l d e = (
     deletes-says texts true d,
-    first_cells (cell_under names texts) s.keys s.columns cells (cells-width s fields n true texts cells e) (λ k c at lt. cell-says n true texts cells l e k c at (ltb-true k s.keys lt)),
+    first_cells (cell_under names texts) s.keys s.columns cells (cells-width s fields n true texts cells e) (λ k c at lt.
+        cell-says n true texts cells l e k c at (key-given s fields keys k c at lt) (ltb-true k s.keys lt)),
   )
   cells-say n false texts cells l d e = (
     deletes-says texts false d,
-    all_cells (cell_under names texts) s.columns cells (cells-width s fields n false texts cells e) (λ k c at. cell-says n false texts cells l e k c at refl)
-        ∙ ap (map Some) (sym (take-append-drop s.keys cells)),
+    picked-say (is_named names) (cell_under names texts) fields 0 s.columns cells width
+        (λ k c at. let none : k ≡ 0 + k = omega arith in is-named k c at ∙ ap (λ p. list_any (is_same (field.Column p)) fields) none)
+        (λ k c at told. let none : 0 + k ≡ k = omega arith in cell-says n false texts cells l e k c at (subst (λ p. list_any (is_same (field.Column p)) fields ≡ true) none told) refl)
+        ∙ ap (map Some) (pick-key fields s.keys 0 s.columns cells width keys-are)
+        ∙ ap (λ p. map Some (take s.keys cells ++ pick (marks fields p (drop s.keys s.columns)) (drop s.keys cells))) first,
   )
+    where
+      width : length cells ≡ length s.columns
+      width = cells-width s fields n false texts cells e
+
+      first : 0 + s.keys ≡ s.keys
+      first = omega arith
+
+      keys-are : (k : ℕ) → k < s.keys → k < length s.columns → list_any (is_same (field.Column (0 + k))) fields ≡ true
+      keys-are k m w =
+          let none : k ≡ 0 + k = omega arith in
+          let there = at-place s.columns k w in
+          subst (λ p. list_any (is_same (field.Column p)) fields ≡ true) none (key-given s fields keys k there.0 there.1 m)
+
+  -- the load carries the columns outside the key that are named
+  carried-say : map (slice_get s.columns) (given_in s fields) ≡ map Some (filter (is_named names) (drop s.keys s.columns))
+  carried-say = by s.keys (drop s.keys s.columns) (λ k c at. sym (get-drop s.keys s.columns k) ∙ at)
+    where
+      by : (i : ℕ) (cs : List Column) → ((k : ℕ) (c : Column) → slice_get cs k ≡ Some c → slice_get s.columns (i + k) ≡ Some c)
+          → map (slice_get s.columns) (pick (marks fields i cs) (places i cs)) ≡ map Some (filter (is_named names) cs)
+      by i [] h = refl
+      by i (c ∷ cs) h = go (list_any (is_same (field.Column i)) fields) (is_named names c) (is-named i c here) (by (i + 1) cs (λ k d e. let same : i + suc k ≡ i + 1 + k = omega arith in rw same at (h (suc k) d e)))
+        where
+          here : slice_get s.columns i ≡ Some c
+          here = let none : i + zero ≡ i = omega arith in subst (λ p. slice_get s.columns p ≡ Some c) none (h zero c refl)
+
+          go : (t n : Bool) → n ≡ t → map (slice_get s.columns) (pick (marks fields (i + 1) cs) (places (i + 1) cs)) ≡ map Some (filter (is_named names) cs)
+              → map (slice_get s.columns) (if t then i ∷ pick (marks fields (i + 1) cs) (places (i + 1) cs) else pick (marks fields (i + 1) cs) (places (i + 1) cs))
+              ≡ map Some (if n then c ∷ filter (is_named names) cs else filter (is_named names) cs)
+          go true true e rest = ap (λ (o : Option Column). o ∷ map (slice_get s.columns) (pick (marks fields (i + 1) cs) (places (i + 1) cs))) here ∙ ap (λ os. Some c ∷ os) rest
+          go true false e rest = cc e
+          go false true e rest = cc e
+          go false false e rest = rest
 
   line-says : (n : ℕ) (texts : List (List ℕ)) (op : Op) → line_of s fields n texts ≡ Ok op → SaysRow s names texts op
   line-says n texts op e = by_width (length texts == length fields) refl e
     where
-      by_length : (delete t : Bool) (cells : List Value) → SaysRow s names texts (line_of_cells s delete cells) → (if t then Err (fault.KeyTooLong n (length (key_code s (take s.keys cells)))) else Ok (line_of_cells s delete cells)) ≡ Ok op
+      by_length : (delete t : Bool) (cells : List Value) → SaysRow s names texts (line_of_cells s fields delete cells) → (if t then Err (fault.KeyTooLong n (length (key_code s (take s.keys cells)))) else Ok (line_of_cells s fields delete cells)) ≡ Ok op
           → SaysRow s names texts op
       by_length delete true cells says e = cc e
-      by_length delete false cells says e = let is : line_of_cells s delete cells ≡ op = cc e in subst (SaysRow s names texts) is says
+      by_length delete false cells says e = let is : line_of_cells s fields delete cells ≡ op = cc e in subst (SaysRow s names texts) is says
 
       by_cells : (delete : Bool) (o : Result (List Value) LoadFault) → length texts ≡ length fields → is_delete fields texts ≡ Some delete → cells_of s fields n delete texts ≡ o
-          → (o and_then line_with s n delete) ≡ Ok op → SaysRow s names texts op
+          → (o and_then line_with s fields n delete) ≡ Ok op → SaysRow s names texts op
       by_cells delete (Err bad) l d g e = cc e
       by_cells delete (Ok cells) l d g e = by_length delete (nat_lt 128 (length (key_code s (take s.keys cells)))) cells (cells-say n delete texts cells l d g) e
 
@@ -384,33 +493,45 @@ module _ (s : Layout) (names : List (List ℕ)) (fields : List Field) (valid : s
 -- ---- a file
 
 -- the load that a file stands for says what the file has under its names
-pub file-says : (s : Layout) (bytes : List ℕ) (load : Load) → schema_fault s.columns s.keys ≡ None → load_of s bytes ≡ Ok load → SaysFile s bytes load
-file-says s bytes load valid e = by_records (records_of bytes) refl e
+pub file-says : (s : Layout) (partial : Bool) (bytes : List ℕ) (load : Load) → schema_fault s.columns s.keys ≡ None → load_of s partial bytes ≡ Ok load → SaysFile s bytes load
+file-says s partial bytes load valid e = by_records (records_of bytes) refl e
   where
-    by_lines : (names : List (List ℕ)) (rows : List (List (List ℕ))) (fields : List Field) → records_of bytes ≡ names ∷ rows → fields_after s [] names ≡ Ok fields → missing_from fields 0 s.columns ≡ None
-        → (o : Result (List Op) LoadFault) → lines_after s fields [] rows ≡ o → (o and_then whole_load s) ≡ Ok load → SaysFile s bytes load
-    by_lines names rows fields r f whole (Err bad) o e = cc e
-    by_lines names rows fields r f whole (Ok ops) o e =
+    by_lines : (names : List (List ℕ)) (rows : List (List (List ℕ))) (fields : List Field) → records_of bytes ≡ names ∷ rows → fields_after s [] names ≡ Ok fields → missing_from fields 0 (wanted s partial) ≡ None
+        → (o : Result (List Op) LoadFault) → lines_after s fields [] rows ≡ o → (o and_then load_with s fields) ≡ Ok load → SaysFile s bytes load
+    by_lines names rows fields r f m (Err bad) o e = cc e
+    by_lines names rows fields r f m (Ok ops) o e =
         let walk = walked s [] fields names (unfold Apart in tt) f in
         let named : Named s names fields = subst (Named s names) (sym walk.fields_are) walk.named in
-        let said = lines-say s names fields valid named walk.apart whole [] ops rows o in
-        let is : record { given = others s; ops = ops } ≡ load = cc e in
-        subst (SaysFile s bytes) is (record { names = names; rows = rows; records = r; lines = subst (SaysRows s names rows) (sym said.ops_are) said.says })
+        let keys = names-key s partial fields m in
+        let said = lines-say s names fields valid named walk.apart keys [] ops rows o in
+        let is : record { given = given_in s fields; ops = ops } ≡ load = cc e in
+        subst (SaysFile s bytes) is (record {
+          names = names;
+          rows = rows;
+          records = r;
+          carried = carried-say s names fields valid named walk.apart keys;
+          lines = subst (SaysRows s names rows) (sym said.ops_are) said.says;
+        })
+
+    by_unfilled : (names : List (List ℕ)) (rows : List (List (List ℕ))) (fields : List Field) → records_of bytes ≡ names ∷ rows → fields_after s [] names ≡ Ok fields → missing_from fields 0 (wanted s partial) ≡ None
+        → (o : Option ℕ) → (unless_unfilled fields o and_then load_of_rows s rows) ≡ Ok load → SaysFile s bytes load
+    by_unfilled names rows fields r f m None e = by_lines names rows fields r f m (lines_after s fields [] rows) refl e
+    by_unfilled names rows fields r f m (Some i) e = cc e
 
     by_missing : (names : List (List ℕ)) (rows : List (List (List ℕ))) (fields : List Field) → records_of bytes ≡ names ∷ rows → fields_after s [] names ≡ Ok fields
-        → (o : Option ℕ) → missing_from fields 0 s.columns ≡ o → (unless_missing fields o and_then load_of_rows s rows) ≡ Ok load → SaysFile s bytes load
-    by_missing names rows fields r f None m e = by_lines names rows fields r f m (lines_after s fields [] rows) refl e
+        → (o : Option ℕ) → missing_from fields 0 (wanted s partial) ≡ o → (unless_missing fields o and_then with_defaults s and_then load_of_rows s rows) ≡ Ok load → SaysFile s bytes load
+    by_missing names rows fields r f None m e = by_unfilled names rows fields r f m (unfilled_from fields 0 s.columns) e
     by_missing names rows fields r f (Some i) m e = cc e
 
     by_fields : (names : List (List ℕ)) (rows : List (List (List ℕ))) → records_of bytes ≡ names ∷ rows → (o : Result (List Field) LoadFault) → fields_after s [] names ≡ o
-        → (o and_then (λ (fields : List Field). unless_missing fields (missing_from fields 0 s.columns)) and_then load_of_rows s rows) ≡ Ok load → SaysFile s bytes load
+        → (o and_then with_wanted s partial and_then with_defaults s and_then load_of_rows s rows) ≡ Ok load → SaysFile s bytes load
     by_fields names rows r (Err bad) f e = cc e
-    by_fields names rows r (Ok fields) f e = by_missing names rows fields r f (missing_from fields 0 s.columns) refl e
+    by_fields names rows r (Ok fields) f e = by_missing names rows fields r f (missing_from fields 0 (wanted s partial)) refl e
 
-    by_records : (rs : List (List (List ℕ))) → records_of bytes ≡ rs → load_of_records s rs ≡ Ok load → SaysFile s bytes load
+    by_records : (rs : List (List (List ℕ))) → records_of bytes ≡ rs → load_of_records s partial rs ≡ Ok load → SaysFile s bytes load
     by_records [] r e = cc e
     by_records (names ∷ rows) r e = by_fields names rows r (fields_after s [] names) refl e
 
-pub if-says : (s : Layout) (bytes : List ℕ) (r : Result Load LoadFault) → schema_fault s.columns s.keys ≡ None → IfOk r (λ load. load_of s bytes ≡ Ok load) → IfOk r (λ load. SaysFile s bytes load)
-if-says s bytes (Ok load) valid e = file-says s bytes load valid e
-if-says s bytes (Err bad) valid e = tt
+pub if-says : (s : Layout) (partial : Bool) (bytes : List ℕ) (r : Result Load LoadFault) → schema_fault s.columns s.keys ≡ None → IfOk r (λ load. load_of s partial bytes ≡ Ok load) → IfOk r (λ load. SaysFile s bytes load)
+if-says s partial bytes (Ok load) valid e = file-says s partial bytes load valid e
+if-says s partial bytes (Err bad) valid e = tt

@@ -1,5 +1,6 @@
 -- What a row of a load file does.
 use Rattle.std.specs.Prelude.{ℕ, ◌+◌, ◌==◌, ◌||◌, List, [], ◌∷◌, length, take, drop, map, slice_get, slice_set, codes, Option, Some, None, option_and_then, Result, Ok, Err, Bool as Truth, true, false, not, nat_lt, if◌then◌else◌}
+use Rattle.std.specs.List.{list_any}
 use Rattle.cell_text.specs.Cells.{cell_of, is_word}
 use Rattle.key_code.specs.KeyCode.{key_code}
 use Rattle.pk_values.specs.Fits.{fits}
@@ -14,6 +15,7 @@ use Rattle.load_csv.specs.declared.loads.LoadFault.TheVariants.{Width, BadOp, Ba
 use Rattle.load_csv.specs.declared.headers.Field.{Field}
 use Rattle.load_csv.specs.declared.headers.Field.TheVariants as field
 use Rattle.load_csv.specs.Results.{◌and_then◌}
+use Rattle.load_csv.specs.Headers.{is_same}
 
 -- ---- whether a row is a delete
 
@@ -77,9 +79,24 @@ abbrev pub op_of : Truth → List Value → List Value → Op
 op_of true key others = Delete key
 op_of false key others = Upsert key others
 
--- a delete of the key that the first cells are, or an upsert of the others there
-abbrev pub line_of_cells : Layout → Truth → List Value → Op
-line_of_cells s delete cells = op_of delete (take s.keys cells) (drop s.keys cells)
+-- for each of these columns whether a field stands for it; the first of them has place i
+abbrev pub marks : List Field → ℕ → List Column → List Truth
+marks fields i [] = []
+marks fields i (c ∷ cs) = list_any (is_same (field.Column i)) fields ∷ marks fields (i + 1) cs
+
+-- and for each column outside the key
+abbrev pub other_marks : Layout → List Field → List Truth
+other_marks s fields = marks fields s.keys (drop s.keys s.columns)
+
+-- those that are marked
+abbrev pub pick : {X : Type 0} → List Truth → List X → List X
+pick [] xs = []
+pick (m ∷ ms) [] = []
+pick (m ∷ ms) (x ∷ xs) = if m then x ∷ pick ms xs else pick ms xs
+
+-- a delete of the key that the first cells are, or an upsert of those of the others that the file gives
+abbrev pub line_of_cells : Layout → List Field → Truth → List Value → Op
+line_of_cells s fields delete cells = op_of delete (take s.keys cells) (pick (other_marks s fields) (drop s.keys cells))
 
 -- the code of a key has at most so many bytes
 abbrev pub longest : ℕ
@@ -88,12 +105,12 @@ longest = 128
 abbrev pub if_short : ℕ → ℕ → Op → Result Op LoadFault
 if_short n len op = if nat_lt longest len then Err (KeyTooLong n len) else Ok op
 
-abbrev pub line_with : Layout → ℕ → Truth → List Value → Result Op LoadFault
-line_with s n delete cells = if_short n (length (key_code s (take s.keys cells))) (line_of_cells s delete cells)
+abbrev pub line_with : Layout → List Field → ℕ → Truth → List Value → Result Op LoadFault
+line_with s fields n delete cells = if_short n (length (key_code s (take s.keys cells))) (line_of_cells s fields delete cells)
 
 abbrev pub line_told : Layout → List Field → ℕ → Option Truth → List (List ℕ) → Result Op LoadFault
 line_told s fields n None texts = Err (BadOp n)
-line_told s fields n (Some delete) texts = cells_of s fields n delete texts and_then line_with s n delete
+line_told s fields n (Some delete) texts = cells_of s fields n delete texts and_then line_with s fields n delete
 
 -- the line that row n is, under a header: its width is judged first, then its `__op`, then its cells, and its key's length last
 abbrev pub line_of : Layout → List Field → ℕ → List (List ℕ) → Result Op LoadFault

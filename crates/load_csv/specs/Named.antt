@@ -1,5 +1,6 @@
 -- What stands in a row under a name of the header, wherever in the file that is.
-use Rattle.std.specs.Prelude.{◌≡◌, ℕ, List, [], ◌∷◌, ◌++◌, map, take, Option, Some, None, option_and_then, Bool as Truth, true, false, if◌then◌else◌, ⊤}
+use Rattle.std.specs.Prelude.{◌≡◌, ℕ, List, [], ◌∷◌, ◌++◌, map, filter, take, drop, slice_get, Option, Some, None, option_and_then, Bool as Truth, true, false, if◌then◌else◌, ⊤}
+use Rattle.std.specs.List.{list_any}
 use Rattle.cell_text.specs.Cells.{is_word}
 use Rattle.pk_values.specs.Schemas.{Layout}
 use Rattle.pk_values.specs.declared.cells.Column.{Column}
@@ -26,10 +27,15 @@ abbrev pub deletes : Option (List ℕ) → Option Truth
 deletes None = Some false
 deletes (Some text) = delete_told text
 
--- a line says what its row has under the names of the table's columns: the cells of all of them, or, as a delete, those of the key
+-- a column's name stands in the header
+abbrev pub is_named : List (List ℕ) → Column → Truth
+is_named names column = list_any (λ n. is_word n column.name) names
+
+-- a line says what its row has under the names of the table's columns: the cells of those that the header names, or, as a delete,
+-- those of the key
 abbrev pub SaysRow : Layout → List (List ℕ) → List (List ℕ) → Op → Type 0
 SaysRow s names texts (Upsert key cells) =
-    (deletes (text_under names texts op_name) ≡ Some false) × (map (cell_under names texts) s.columns ≡ map Some (key ++ cells))
+    (deletes (text_under names texts op_name) ≡ Some false) × (map (cell_under names texts) (filter (is_named names) s.columns) ≡ map Some (key ++ cells))
 SaysRow s names texts (Delete key) =
     (deletes (text_under names texts op_name) ≡ Some true) × (map (cell_under names texts) (take s.keys s.columns) ≡ map Some key)
 
@@ -40,9 +46,10 @@ SaysRows s names [] (op ∷ ops) = ⊥
 SaysRows s names (row ∷ rows) [] = ⊥
 SaysRows s names (row ∷ rows) (op ∷ ops) = SaysRow s names row op × SaysRows s names rows ops
 
--- a load says what a file has under the names of its header, whatever their order
+-- a load says what a file has under the names of its header, whatever their order; it carries the columns outside the key that are named
 pub record SaysFile (s : Layout) (bytes : List ℕ) (load : Load) : Type 0 where
   pub names : List (List ℕ)
   pub rows : List (List (List ℕ))
   pub records : records_of bytes ≡ names ∷ rows
+  pub carried : map (slice_get s.columns) load.given ≡ map Some (filter (is_named names) (drop s.keys s.columns))
   pub lines : SaysRows s names rows load.ops

@@ -7,8 +7,8 @@ use Rattle.csv.specs.declared.reader.Reader.{Reader}
 use Rattle.csv.specs.declared.reader.Trim.TheVariants as trim
 
 -- a file has at most so many bytes
-abbrev pub most_bytes : ℕ
-most_bytes = 67108864
+abbrev pub most_file_bytes : ℕ
+most_file_bytes = 67108864
 
 -- the bytes that a reader has left, if it still reads
 abbrev pub source : Reader (Bor (List ℕ)) → Option (List ℕ)
@@ -28,7 +28,7 @@ pub record IsReading (rdr : Reader (Bor (List ℕ))) : Type 0 where
   pub config : reader_config rdr ≡ default_config
   pub between : ends_at_end (reader_state rdr) ≡ false
   pub known : IsSome (source rdr)
-  pub small : length (bytes_left rdr) ≤ most_bytes
+  pub small : length (bytes_left rdr) ≤ most_file_bytes
 
 -- a read took the first of the records, or there was none
 abbrev pub IsNext : Truth → List (List ℕ) → List (List (List ℕ)) → List (List (List ℕ)) → Type 0

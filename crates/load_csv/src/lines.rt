@@ -3,18 +3,20 @@ ghost use Rattle.csv.specs.Records.{fields_of};
 ghost use Rattle.pk_values.specs.Schemas.{fits_key};
 ghost use Rattle.key_code.specs.KeyCode.{key_code};
 ghost use Rattle.load_csv.specs.Headers.{missing_from};
-ghost use Rattle.load_csv.specs.Lines.{delete_told, is_delete, line_of, line_with, op_of};
-ghost use Rattle.load_csv.specs.Records.{most_bytes};
+ghost use Rattle.load_csv.specs.Lines.{delete_told, is_delete, line_of, line_with, op_of, other_marks, pick};
+ghost use Rattle.std.specs.List.{list_all};
+ghost use Rattle.load_csv.specs.Records.{most_file_bytes};
 
 use crate::cells::read_cells;
-use crate::headers::Field;
+use crate::headers::{Field, Header};
 use crate::loads::LoadFault;
+use crate::marks::push_if;
 use crate::records::text_at;
 use csv::ByteRecord;
 use key_code::{KeyFault, encode};
 use pk_model::Op;
 use pk_values::{Items, Key, Schema, Value};
-use std::alloc::Global;
+use std::alloc::{AllocError, Global};
 
 // Whether the text of an `__op` tells a delete.
 fn delete_told(text: &[u8]) -> Option<bool>
@@ -55,18 +57,53 @@ fn check_key(alloc: Global, schema: &Schema, n: u32, key: &Key) -> Result<(), Lo
     }
 }
 
-// The first cells, and the others.
-fn split_cells(cells: Vec<Value>, keys: usize) -> Result<(Key, Items<Value>), LoadFault>
-    requires { keys ≤ length cells.items }
-    ensures key { IfOk result (λ parts. parts.0 ≡ take keys cells.items) }
-    ensures others { IfOk result (λ parts. parts.1 ≡ drop keys cells.items) }
-    ensures memory { IfErr result (λ f. f ≡ LoadFault.Memory) }
+// The cells that are marked.
+fn picked(alloc: Global, marks: &[bool], cells: Vec<Value>) -> Result<Items<Value>, AllocError>
+    requires { length cells.items ≤ length marks.now }
+    ensures { IfOk result (λ kept. kept ≡ pick marks.now cells.items) }
 {
     let mut cells = cells;
-    match cells.split_off(keys) {
-        Ok(others) => Ok((Key { cells }, Items::from_vec(others))),
-        Err(_) => Err(LoadFault::Memory),
+    let mut kept = Items::new(alloc);
+    for i in 0..cells.len() {
+        let cell = std::mem::replace(&mut cells[i], Value::Null);
+        push_if(&mut kept, cell, marks[i])?;
     }
+    Ok(kept)
+}
+
+// Of the cells of all columns outside the key those that the file gives.
+fn given_cells(
+    alloc: Global,
+    header: &Header,
+    cells: Vec<Value>,
+) -> Result<Items<Value>, AllocError>
+    requires width { length cells.items ≤ length header.now.marks.items }
+    requires whole { header.now.is_whole ≡ list_all (λ m. m) header.now.marks.items }
+    ensures { IfOk result (λ kept. kept ≡ pick header.now.marks.items cells.items) }
+{
+    if header.is_whole {
+        return Ok(Items::from_vec(cells));
+    }
+    picked(alloc, &header.marks, cells)
+}
+
+// The first cells, and of the others those that the file gives.
+fn split_cells(
+    alloc: Global,
+    header: &Header,
+    cells: Vec<Value>,
+    keys: usize,
+) -> Result<(Key, Items<Value>), AllocError>
+    requires within { keys ≤ length cells.items }
+    requires width { length cells.items ≤ keys + length header.now.marks.items }
+    requires whole { header.now.is_whole ≡ list_all (λ m. m) header.now.marks.items }
+    ensures key { IfOk result (λ parts. parts.0 ≡ take keys cells.items) }
+    ensures others { IfOk result (λ parts. parts.1 ≡ pick header.now.marks.items (drop keys cells.items)) }
+{
+    let mut cells = cells;
+    let others = cells.split_off(keys)?;
+    let given = given_cells(alloc, header, others)?;
+    Ok((Key { cells }, given))
 }
 
 // A delete of a key, or an upsert of other cells there.
@@ -84,39 +121,46 @@ fn make_op(delete: bool, key: Key, others: Items<Value>) -> Op
 fn line_with(
     alloc: Global,
     schema: &Schema,
+    header: &Header,
     n: u32,
     delete: bool,
     cells: Vec<Value>,
 ) -> Result<Op, LoadFault>
     requires width { length cells.items ≡ length schema.now.columns }
+    requires marks { header.now.marks.items ≡ other_marks schema.now header.now.fields.items }
+    requires whole { header.now.is_whole ≡ list_all (λ m. m) header.now.marks.items }
     requires fits { IsTrue (fits_key schema.now (take schema.now.keys cells.items)) }
-    ensures ok { IfOk result (λ op. line_with schema.now n delete cells.items ≡ Ok op) }
-    ensures fault { IfErr result (λ f. f ≢ LoadFault.Memory → line_with schema.now n delete cells.items ≡ Err f) }
+    ensures ok { IfOk result (λ op. line_with schema.now header.now.fields.items n delete cells.items ≡ Ok op) }
+    ensures fault { IfErr result (λ f. f ≢ LoadFault.Memory → line_with schema.now header.now.fields.items n delete cells.items ≡ Err f) }
 {
-    let (key, others) = split_cells(cells, schema.keys() as usize)?;
+    let Ok((key, given)) = split_cells(alloc, header, cells, schema.keys() as usize) else {
+        return Err(LoadFault::Memory);
+    };
     check_key(alloc, schema, n, &key)?;
-    Ok(make_op(delete, key, others))
+    Ok(make_op(delete, key, given))
 }
 
-/// The line that row `n` is under a header which names each column.
+/// The line that row `n` is under a header which names each column of the key.
 pub(crate) fn read_line(
     alloc: Global,
     schema: &Schema,
-    fields: &[Field],
+    header: &Header,
     n: u32,
     row: &ByteRecord,
 ) -> Result<Op, LoadFault>
-    requires few { length fields.now ≤ most_bytes + 1 }
-    requires whole { missing_from fields.now 0 schema.now.columns ≡ None }
-    ensures ok { IfOk result (λ op. line_of schema.now fields.now n (fields_of row.now) ≡ Ok op) }
-    ensures fault { IfErr result (λ f. f ≢ LoadFault.Memory → line_of schema.now fields.now n (fields_of row.now) ≡ Err f) }
+    requires few { length header.now.fields.items ≤ most_file_bytes + 1 }
+    requires keys { missing_from header.now.fields.items 0 (take schema.now.keys schema.now.columns) ≡ None }
+    requires marks { header.now.marks.items ≡ other_marks schema.now header.now.fields.items }
+    requires whole { header.now.is_whole ≡ list_all (λ m. m) header.now.marks.items }
+    ensures ok { IfOk result (λ op. line_of schema.now header.now.fields.items n (fields_of row.now) ≡ Ok op) }
+    ensures fault { IfErr result (λ f. f ≢ LoadFault.Memory → line_of schema.now header.now.fields.items n (fields_of row.now) ≡ Err f) }
 {
-    if row.len() != fields.len() {
+    if row.len() != header.fields.len() {
         return Err(LoadFault::Width(n));
     }
-    let Some(delete) = is_delete(fields, row) else {
+    let Some(delete) = is_delete(&header.fields, row) else {
         return Err(LoadFault::BadOp(n));
     };
-    let cells = read_cells(alloc, schema, fields, n, delete, row)?;
-    line_with(alloc, schema, n, delete, cells)
+    let cells = read_cells(alloc, schema, &header.fields, n, delete, row)?;
+    line_with(alloc, schema, header, n, delete, cells)
 }

@@ -7,7 +7,8 @@ use Rattle.dev_traits.specs.Causes.{Counts, HasReadCause}
 use Rattle.dev_traits.specs.declared.faults.ReadFault.{ReadFault}
 use Rattle.dev_traits.specs.declared.faults.ReadFault.TheVariants as read
 use Rattle.index_level0.specs.Levels.{Level}
-use Rattle.pk_index.specs.Shown.{HaveCause, HaveLevels, IsDamaged, OneCounts}
+use Rattle.index_file.specs.Reads.{TellsDamage}
+use Rattle.pk_index.specs.Shown.{HaveCause, HaveLevels, OneCounts}
 use Rattle.pk_index.proofs.IndexFacts.{level_at}
 
 abbrev pub fault_in : {C : Type 0} → Result C ReadFault → ReadFault
@@ -31,7 +32,7 @@ module _ {F : Type 0} where
   }
 
   -- a file whose bytes are damaged has no level
-  pub none_have : (has : F → Level → Type 0) (files : List F) (i : ℕ) (d : F) (e : ReadFault) (ls : List Level) → i < length files → (IsDamaged e → (level : Level) → has (get_or files i d) level → ⊥) → IsDamaged e → HaveLevels has files ls → ⊥
+  pub none_have : (has : F → Level → Type 0) (files : List F) (i : ℕ) (d : F) (e : ReadFault) (ls : List Level) → i < length files → (TellsDamage e → (level : Level) → has (get_or files i d) level → ⊥) → TellsDamage e → HaveLevels has files ls → ⊥
   none_have has files i d e ls less intact damaged have = let p = level_at has files i d ls less have in intact damaged p.level p.is
 
   pub none_fails : {B : Type 0} (faults : F → ℕ) (before files : List F) (i : ℕ) (d y : F) (x : B) → faults y ≡ faults (get_or files i d) → map faults files ≡ map faults before

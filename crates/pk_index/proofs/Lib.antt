@@ -1,5 +1,6 @@
 pub mod MergeFacts
 pub mod CauseFacts
+pub mod FilterFacts
 pub mod IndexFacts
 pub mod MergedFacts
 pub mod ReadFacts

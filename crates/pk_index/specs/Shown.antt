@@ -4,6 +4,10 @@ use Rattle.std.specs.Coded.{Coded, code_by, coded×, coded_list}
 use Rattle.dev_traits.specs.Causes.{Counts}
 use Rattle.dev_traits.specs.declared.faults.ReadFault.{ReadFault}
 use Rattle.dev_traits.specs.declared.faults.ReadFault.TheVariants as read
+use Rattle.dev_traits.specs.declared.faults.MakeFault.{MakeFault}
+use Rattle.dev_traits.specs.declared.faults.MakeFault.TheVariants as make
+use Rattle.pk_index.specs.declared.faults.IndexFault.{IndexFault}
+use Rattle.pk_index.specs.declared.faults.IndexFault.TheVariants as index
 use Rattle.index_level0.specs.Levels.{Level, LevelWithRoom, coded_level_with_room}
 use Rattle.index_levels.specs.Levels.{Index}
 
@@ -47,8 +51,23 @@ pub record HaveCause {A : Type 0} (before now : List ℕ) (result : Result A Rea
   pub well : ¬ IsErrOf result read.StoreFault → now ≡ before
   pub failed : IsErrOf result read.StoreFault → OneCounts before now
 
+-- The device's fault was counted once, by one file or by the maker. Whatever else is answered counts none.
+pub record HaveFlushCause {A : Type 0} (before now : List ℕ) (made making : ℕ) (result : Result A IndexFault) : Type 0 where
+  pub well : ¬ IsErrOf result index.StoreFault → (now ≡ before) × (making ≡ made)
+  pub failed : IsErrOf result index.StoreFault → (OneCounts before now × (making ≡ made)) ⊎ ((now ≡ before) × Counts 1 made making)
+
+-- the fault of a reader, and of a maker, as one of the index
+abbrev pub index_of_read : ReadFault → IndexFault
+index_of_read (read.Damaged damaged) = index.Damaged damaged
+index_of_read read.StoreFault = index.StoreFault
+index_of_read read.Memory = index.Memory
+
+abbrev pub index_of_make : MakeFault → IndexFault
+index_of_make make.StoreFault = index.StoreFault
+index_of_make make.Memory = index.Memory
+
 -- damage was told
-abbrev pub IsDamaged : ReadFault → Type 0
-IsDamaged (read.Damaged damaged) = Unit {0}
-IsDamaged read.StoreFault = ⊥
-IsDamaged read.Memory = ⊥
+abbrev pub TellsIndexDamage : IndexFault → Type 0
+TellsIndexDamage (index.Damaged damaged) = Unit {0}
+TellsIndexDamage index.StoreFault = ⊥
+TellsIndexDamage index.Memory = ⊥

@@ -1,3 +1,4 @@
+ghost use Rattle.index_file.specs.Reads.{TellsDamage};
 ghost use Rattle.std.specs.Prelude.{◌≡◌, ◌+◌, ◌-◌, ◌<◌, ◌≤◌, ◌^◌, ◌∷◌, ◌++◌, [], ℕ, List, length, map, take, drop, reverse, sum, min, IfErr, IfOk, T};
 ghost use Rattle.std.specs.Vec.{vec_capacity};
 ghost use Rattle.index_levels.specs.Levels.{entry_at, merged};
@@ -5,7 +6,7 @@ ghost use Rattle.std.specs.FinMap.{entries, is_sorted};
 ghost use Rattle.std.specs.Cmp.Lexicographic.{slice_cmp};
 ghost use Rattle.std.specs.Ordering.{nat_cmp};
 ghost use Rattle.index_level0.specs.Levels.{Level};
-ghost use Rattle.pk_index.specs.Shown.{AtMostOneMore, HaveCause, HaveLevels, IsDamaged};
+ghost use Rattle.pk_index.specs.Shown.{AtMostOneMore, HaveCause, HaveLevels};
 
 use crate::entries::{Pair, merge};
 use dev_traits::{Memory, ReadFault};
@@ -16,7 +17,7 @@ use std::alloc::Global;
 pub trait FileLevel: Drop {
     ghost use Rattle.std.specs.Prelude.{◌≡◌, ◌+◌, ◌≤◌, ℕ, IfErr, IfOk, T};
     ghost use Rattle.dev_traits.specs.Causes.{HasReadCause};
-    ghost use Rattle.pk_index.specs.Shown.{IsDamaged};
+    ghost use Rattle.index_file.specs.Reads.{TellsDamage};
     ghost use Rattle.std.specs.FinMap.{entries, get, is_sorted};
     ghost use Rattle.std.specs.Cmp.Lexicographic.{slice_cmp};
     ghost use Rattle.std.specs.Ordering.{nat_cmp};
@@ -51,7 +52,7 @@ pub trait FileLevel: Drop {
         ensures reads { reads self.new ≤ reads self.old + 1 }
         ensures named { named self.new ≡ named self.old }
         ensures cause { HasReadCause (faults self.old) (faults self.new) result }
-        ensures intact { IfErr result (λ e. IsDamaged e → (level : Level) → has_level self.old level → ⊥) };
+        ensures intact { IfErr result (λ e. TellsDamage e → (level : Level) → has_level self.old level → ⊥) };
 
     /// All its entries in the order of their keys.
     fn entries(&mut self, alloc: Global) -> Result<Vec<Pair>, ReadFault>
@@ -60,7 +61,7 @@ pub trait FileLevel: Drop {
         ensures same { (level : Level) → has_level self.old level → has_level self.new level }
         ensures named { named self.new ≡ named self.old }
         ensures cause { HasReadCause (faults self.old) (faults self.new) result }
-        ensures intact { IfErr result (λ e. IsDamaged e → (level : Level) → has_level self.old level → ⊥) };
+        ensures intact { IfErr result (λ e. TellsDamage e → (level : Level) → has_level self.old level → ⊥) };
 }
 
 /// The newest entry of a key in files, of which the newest is the first. Each is probed at most once.
@@ -74,7 +75,7 @@ pub(crate) fn probe_all<F: FileLevel>(
     ensures reads { AtMostOneMore (map F.reads files.old) (map F.reads files.new) }
     ensures named { map F.named files.new ≡ map F.named files.old }
     ensures cause { HaveCause (map F.faults files.old) (map F.faults files.new) result }
-    ensures intact { IfErr result (λ e. IsDamaged e → (ls : List Level) → HaveLevels F.has_level files.old ls → ⊥) }
+    ensures intact { IfErr result (λ e. TellsDamage e → (ls : List Level) → HaveLevels F.has_level files.old ls → ⊥) }
 {
     for i in 0..files.len() {
         let found = match files[i].probe(alloc, key) {
@@ -102,7 +103,7 @@ pub(crate) fn merge_newest<F: FileLevel>(
     ensures older { drop count files.new ≡ drop count files.old }
     ensures named { map F.named files.new ≡ map F.named files.old }
     ensures cause { HaveCause (map F.faults files.old) (map F.faults files.new) result }
-    ensures intact { IfErr result (λ e. IsDamaged e → (ls : List Level) → HaveLevels F.has_level files.old ls → ⊥) }
+    ensures intact { IfErr result (λ e. TellsDamage e → (ls : List Level) → HaveLevels F.has_level files.old ls → ⊥) }
 {
     let mut all = level0.entries(alloc)?;
     for i in 0..count {

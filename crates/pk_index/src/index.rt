@@ -1,20 +1,33 @@
-ghost use Rattle.std.specs.Prelude.{◌≡◌, ◌+◌, ◌-◌, ◌<◌, ◌≤◌, ◌^◌, ◌↔◌, ◌++◌, List, [], length, map, take, drop, reverse, sum, max, min, nat_lt, if◌then◌else◌, IfOk, IfErr, IfNone, IsTrue, OnErr, OnOk};
+ghost use Rattle.std.specs.Prelude.{◌≡◌, ◌+◌, ◌-◌, ◌<◌, ◌≤◌, ◌^◌, ◌↔◌, ◌++◌, ℕ, List, [], Some, T, is_some, length, map, take, drop, reverse, sum, max, min, nat_lt, if◌then◌else◌, IfOk, IfErr, IfNone, IsTrue, OnErr, OnOk};
 ghost use Rattle.std.specs.Option.{option_to_list};
-ghost use Rattle.std.specs.FinMap.{empty, entries, len};
+ghost use Rattle.std.specs.FinMap.{empty, entries, is_sorted, len};
+ghost use Rattle.std.specs.Cmp.Lexicographic.{slice_cmp};
+ghost use Rattle.std.specs.Ordering.{nat_cmp};
+ghost use Rattle.index_file.specs.Buckets.{footer_of, index_file};
 ghost use Rattle.index_level0.specs.Levels.{Level};
 ghost use Rattle.index_levels.specs.Levels.{flushed, levels, merged, newer_than, place_at, put_all, replaced};
 ghost use Rattle.pk_index.specs.Flushing.{written};
-ghost use Rattle.pk_index.specs.Shown.{AtMostOneMore, HaveCause, HaveLevels, IsDamaged, index_of};
+ghost use Rattle.index_file.specs.Reads.{TellsDamage};
+ghost use Rattle.pk_index.specs.Shown.{AtMostOneMore, HaveCause, HaveFlushCause, HaveLevels, TellsIndexDamage, index_of};
 
 use crate::entries::{Pair, places, put_changes};
+use crate::faults::{IndexFault, of_make, of_read};
 use crate::files::{
     FileLevel, faults_of, merge_newest, names_of, probe_all, put_first, put_last, set_aside,
     set_oldest_aside,
 };
-use dev_traits::{Memory, ReadFault};
+use dev_traits::{FileMaker, Memory, ReadFault};
+use index_file::{MadeIndex, write_index};
 use index_level0::{Level0, Place};
 use std::alloc::Global;
 use std::marker::Model;
+
+/// A file that a flush made, and how many of the oldest files stay below it.
+#[derive(Drop)]
+pub struct Flushed<X> {
+    pub made: MadeIndex<X>,
+    pub keep: u32,
+}
 
 /// The index of a table's keys: level 0 over at most 8 files.
 #[derive(Drop)]
@@ -110,7 +123,7 @@ impl<F: FileLevel> PkIndex<F> {
         ensures number { length self.new.files ≡ length self.old.files }
         ensures named { map F.named self.new.files ≡ map F.named self.old.files }
         ensures cause { HaveCause (map F.faults self.old.files) (map F.faults self.new.files) result }
-        ensures intact { IfErr result (λ e. IsDamaged e → (files : List Level) → HaveLevels F.has_level self.old.files files → ⊥) }
+        ensures intact { IfErr result (λ e. TellsDamage e → (files : List Level) → HaveLevels F.has_level self.old.files files → ⊥) }
         ensures aside { self.new.aside ≡ self.old.aside }
     {
         if let Some(entry) = self.level0.get(key) {
@@ -122,16 +135,12 @@ impl<F: FileLevel> PkIndex<F> {
         }
     }
 
-    /// What a flush writes into one file, and how many of the oldest files it keeps.
-    pub fn flush(
-        &mut self,
-        alloc: Global,
-        keep: u32,
-        most: u32,
-    ) -> Result<(Vec<Pair>, u32), ReadFault>
+    // What a flush writes into one file, and how many of the oldest files it keeps.
+    fn gather(&mut self, alloc: Global, keep: u32, most: u32) -> Result<(Vec<Pair>, u32), ReadFault>
         requires within { keep ≤ length self.old.files }
         requires few { keep < most }
         ensures entries { IfOk result (λ told. (files : List Level) → HaveLevels F.has_level self.old.files files → told.0.items ≡ entries (written keep most (index_of self.old.level0 files))) }
+        ensures rise { IfOk result (λ told. T (is_sorted (slice_cmp nat_cmp) told.0.items)) }
         ensures keep { IfOk result (λ told. told.1 ≡ (if nat_lt (length self.old.files) most then length self.old.files else keep)) }
         ensures level0 { self.new.level0 ≡ self.old.level0 }
         ensures same { (files : List Level) → HaveLevels F.has_level self.old.files files → HaveLevels F.has_level self.new.files files }
@@ -139,7 +148,7 @@ impl<F: FileLevel> PkIndex<F> {
         ensures kept { drop (length self.old.files - keep) self.new.files ≡ drop (length self.old.files - keep) self.old.files }
         ensures named { map F.named self.new.files ≡ map F.named self.old.files }
         ensures cause { HaveCause (map F.faults self.old.files) (map F.faults self.new.files) result }
-        ensures intact { IfErr result (λ e. IsDamaged e → (files : List Level) → HaveLevels F.has_level self.old.files files → ⊥) }
+        ensures intact { IfErr result (λ e. TellsDamage e → (files : List Level) → HaveLevels F.has_level self.old.files files → ⊥) }
         ensures aside { self.new.aside ≡ self.old.aside }
     {
         let count = self.mark();
@@ -152,6 +161,46 @@ impl<F: FileLevel> PkIndex<F> {
         Ok((all, kept))
     }
 
+    /// Writes one file. Where fewer than `most` files stand, it holds level 0, and the answer keeps all of them. Else it holds the
+    /// newest entries of level 0 and all files but the oldest `keep`; where it keeps none, tombstones are left out. The index stays
+    /// as it is.
+    ///
+    /// # Errors
+    /// `StoreFault` where the maker or a file's reader counted a fault; `Damaged` as the files tell it; `Memory`.
+    pub fn flush<M: FileMaker>(
+        &mut self,
+        alloc: Global,
+        maker: &mut M,
+        keep: u32,
+        most: u32,
+    ) -> Result<Flushed<M::Sealed>, IndexFault>
+        requires within { keep ≤ length self.old.files }
+        requires few { keep < most }
+        ensures footer { IfOk result (λ told. (files : List Level) → HaveLevels F.has_level self.old.files files → told.made.footer ≡ footer_of (written keep most (index_of self.old.level0 files))) }
+        ensures sealed { IfOk result (λ told. (files : List Level) → HaveLevels F.has_level self.old.files files → (bytes : List ℕ) → M.sealed_bytes told.made.sealed ≡ Some bytes
+            → bytes ≡ index_file (written keep most (index_of self.old.level0 files))) }
+        ensures told { IfOk result (λ told. is_some (M.sealed_bytes told.made.sealed) ≡ is_some (M.view maker.old).made) }
+        ensures keep { IfOk result (λ told. told.keep ≡ (if nat_lt (length self.old.files) most then length self.old.files else keep)) }
+        ensures level0 { self.new.level0 ≡ self.old.level0 }
+        ensures same { (files : List Level) → HaveLevels F.has_level self.old.files files → HaveLevels F.has_level self.new.files files }
+        ensures number { length self.new.files ≡ length self.old.files }
+        ensures kept { drop (length self.old.files - keep) self.new.files ≡ drop (length self.old.files - keep) self.old.files }
+        ensures named { map F.named self.new.files ≡ map F.named self.old.files }
+        ensures cause { HaveFlushCause (map F.faults self.old.files) (map F.faults self.new.files) (M.view maker.old).faults (M.view maker.new).faults result }
+        ensures intact { IfErr result (λ e. TellsIndexDamage e → (files : List Level) → HaveLevels F.has_level self.old.files files → ⊥) }
+        ensures tells { is_some (M.view maker.new).made ≡ is_some (M.view maker.old).made }
+        ensures aside { self.new.aside ≡ self.old.aside }
+    {
+        let (entries, keep) = match self.gather(alloc, keep, most) {
+            Ok(told) => told,
+            Err(fault) => return Err(of_read(fault)),
+        };
+        match write_index(alloc, maker, &entries) {
+            Ok(made) => Ok(Flushed { made, keep }),
+            Err(fault) => Err(of_make(fault)),
+        }
+    }
+
     /// The newest entry of each key that stands above the oldest `mark` files, in the order of the keys.
     pub fn newer_than(&mut self, alloc: Global, mark: u32) -> Result<Vec<Pair>, ReadFault>
         requires { mark ≤ length self.old.files }
@@ -162,7 +211,7 @@ impl<F: FileLevel> PkIndex<F> {
         ensures marked { drop (length self.old.files - mark) self.new.files ≡ drop (length self.old.files - mark) self.old.files }
         ensures named { map F.named self.new.files ≡ map F.named self.old.files }
         ensures cause { HaveCause (map F.faults self.old.files) (map F.faults self.new.files) result }
-        ensures intact { IfErr result (λ e. IsDamaged e → (files : List Level) → HaveLevels F.has_level self.old.files files → ⊥) }
+        ensures intact { IfErr result (λ e. TellsDamage e → (files : List Level) → HaveLevels F.has_level self.old.files files → ⊥) }
         ensures aside { self.new.aside ≡ self.old.aside }
     {
         let above = self.files.len() - mark as usize;

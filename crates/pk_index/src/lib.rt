@@ -2,11 +2,14 @@
 #![tactic(auto)]
 
 mod entries;
+mod faults;
 mod files;
 mod index;
+mod index_files;
 mod laws;
 
 pub use entries::{Pair, merge};
+pub use faults::IndexFault;
 pub use files::FileLevel;
-pub use index::PkIndex;
+pub use index::{Flushed, PkIndex};
 pub use laws::flushing;

@@ -198,7 +198,7 @@ stable-results xs ys lt tie stable s given q old =
     let takes : (op : Op) → eq_by_cmp key_cmp q (key_named op) ≡ true → p op ≡ true = λ op e. tie (Delete q) op e in
     sym (result-filter s given q p takes ys old) ∙ ap (λ ops. result_for s given ops q old) (stable (Delete q)) ∙ result-filter s given q p takes xs old
 
-pub by-key-results : (xs ys : List Op) → IsStableBy before xs ys → SameResults xs ys
+by-key-results : (xs ys : List Op) → IsStableBy before xs ys → SameResults xs ys
 by-key-results xs ys stable = stable-results xs ys before (λ a b e. tied (key_named a) (key_named b) ∙ e) stable
 
 -- and so does a stable sort by a number of the key

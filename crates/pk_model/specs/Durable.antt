@@ -49,7 +49,8 @@ MayChangeDurable (call.Expire v) = ⊤
 MayChangeDurable call.Stat = ⊥
 
 abbrev pub OthersLeaveDurable : Type 0
-OthersLeaveDurable = (s : Layout) (b : Book) (place : ℕ) (c : Call) → (MayChangeDurable c → ⊥) → durable (change s b place c) ≡ durable b
+OthersLeaveDurable = (s : Layout) (b : Book) (place : ℕ) (c : Call) → (MayChangeDurable c → ⊥)
+    → durable (change s b place c) ≡ durable b
 
 -- a load and an expiry make of an open book what they make of its durable one
 abbrev pub DurableGoesOn : Type 0

@@ -51,7 +51,8 @@ FaultsAloneClose = (s : Layout) (b : Book) (place : ℕ) (c : Call) (r : Reply)
 -- a reply leaves the book, closes it at its place, or leaves what the call makes of it
 abbrev pub ReplyLeavesOneOfThree : Type 0
 ReplyLeavesOneOfThree = (s : Layout) (b : Book) (place : ℕ) (c : Call) (r : Reply)
-    → (next s b place c r ≡ b) ⊎ (next s b place c r ≡ record b { closed = Some place }) ⊎ (next s b place c r ≡ change s b place c)
+    → (next s b place c r ≡ b) ⊎ (next s b place c r ≡ record b { closed = Some place })
+    ⊎ (next s b place c r ≡ change s b place c)
 
 -- a legal history goes on by any history that is legal from the book it leaves
 abbrev pub LegalAppends : Type 0

@@ -1,5 +1,6 @@
 -- Which loads a table takes.
-use Rattle.std.specs.Prelude.{All, ℕ, ◌+◌, ◌≤◌, List, [], ◌∷◌, length, drop, slice_get, Option, Some, None, is_some, Bool as Truth, true, false, ◌&&◌, ◌||◌, not, ◌==◌, nat_le, nat_lt, IsTrue}
+use Rattle.std.specs.Prelude.{All, ℕ, ◌+◌, ◌≤◌, List, [], ◌∷◌, length, drop, slice_get, Option, Some, None, is_some}
+use Rattle.std.specs.Prelude.{Bool as Truth, true, false, ◌&&◌, ◌||◌, not, ◌==◌, nat_le, nat_lt, IsTrue}
 use Rattle.std.specs.List.{list_all, list_any}
 use Rattle.key_code.specs.KeyCode.{key_code}
 use Rattle.pk_values.specs.Fits.{fits}
@@ -27,7 +28,8 @@ is_needed c = not (is_some c.default) && not c.nullable
 -- each needed column among these, of which the first stands at place i, is carried
 abbrev pub carries_needed : List ℕ → ℕ → List Column → Truth
 carries_needed given i [] = true
-carries_needed given i (c ∷ cs) = (not (is_needed c) || list_any (λ place. place == i) given) && carries_needed given (i + 1) cs
+carries_needed given i (c ∷ cs) =
+    (not (is_needed c) || list_any (λ place. place == i) given) && carries_needed given (i + 1) cs
 
 abbrev pub fits_at : Option Column → Value → Truth
 fits_at None v = false
@@ -52,7 +54,8 @@ most_code_bytes = 128
 abbrev pub HasShortKey : Layout → Op → Type 0
 HasShortKey s op = length (key_code s (key_named op)) ≤ most_code_bytes
 
--- the carried columns are a rising list of columns outside the key with each needed one among them, keys and cells fit, no key's code is too long, and there are not too many lines
+-- the carried columns are a rising list of columns outside the key with each needed one among them, keys and cells fit,
+-- no key's code is too long, and there are not too many lines
 pub record IsLawful (s : Layout) (load : Load) : Type 0 where
   pub given : IsTrue (rise_within s.keys (length s.columns) load.given)
   pub needed : IsTrue (carries_needed load.given s.keys (drop s.keys s.columns))

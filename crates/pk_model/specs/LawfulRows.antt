@@ -60,7 +60,8 @@ CallsKeepRows = (s : Layout) (b : Book) (place : ℕ) (c : Call) (r : Reply)
 -- and so does a history of lawful loads
 abbrev pub HistoriesKeepRows : Type 0
 HistoriesKeepRows = (s : Layout) (b : Book) (place : ℕ) (es : List Entry)
-    → schema_fault s.columns s.keys ≡ None → HasLawfulLoads s es → HasLawfulRows s b → HasLawfulRows s (replay s b place es)
+    → schema_fault s.columns s.keys ≡ None → HasLawfulLoads s es → HasLawfulRows s b
+    → HasLawfulRows s (replay s b place es)
 
 -- lawful rows, listed in the order of their keys, fit their schema
 abbrev pub ListedRowsFit : Type 0

@@ -10,4 +10,5 @@ are_counted first (place ∷ places) = (place == first) && are_counted (first + 
 -- a key of so many cells has one for each key column, and so many others stand one in each other column
 abbrev pub is_whole : Layout → List ℕ → ℕ → ℕ → Truth
 is_whole s given key cells =
-    (key == s.keys) && (length given == length (drop s.keys s.columns)) && (cells == length (drop s.keys s.columns)) && are_counted s.keys given
+    (key == s.keys) && (length given == length (drop s.keys s.columns)) && (cells == length (drop s.keys s.columns))
+    && are_counted s.keys given

@@ -1,4 +1,5 @@
--- One merge of the lines of a load into the rows of a table: lines in the order of their keys, and what each does to the rows written so far.
+-- One merge of the lines of a load into the rows of a table: lines in the order of their keys, and what each does to
+-- the rows written so far.
 use Rattle.std.specs.Prelude.{◌≡◌, ℕ, List, [], ◌∷◌, ◌++◌, Bool as Truth, true, false, ◌&&◌, T}
 use Rattle.std.specs.FinMap.{entries}
 use Rattle.std.specs.FinMap.Entries.{below_all, is_sorted}

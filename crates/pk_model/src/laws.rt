@@ -1,9 +1,17 @@
 //! What holds of every load, book and history: functions that do nothing, each of which a clause gives its law.
 ghost use Rattle.pk_model.specs.Books.{new_book, FewVersions};
-ghost use Rattle.pk_model.specs.Laws.{CarriedCells, ClosedStays, CurrentRows, DeletedThenNew, ElseOnlyTakes, EndLeavesRows, ExpiryDrops, ExpiryKeepsVersion, FewStay, KeysRise, LastLineActs, LawfulKeepsKeys, LegalGoesOn, LoadMakesOne, NewVersion, NumbersAreFew, OlderStay, OpensKept, OneResultPerKey, OtherCells, OtherKeys, PrefixIsLegal, RefusalsLeave, ReplayGoesOn, RowsTellKeys, WriteLeavesRow};
-ghost use Rattle.pk_model.specs.LawfulRows.{CallsKeepRows, HistoriesKeepRows, LawfulLoadsKeepRows, ListedKeysFit, ListedRowsFit, NewBooksRowsAreLawful};
-ghost use Rattle.pk_model.specs.Durable.{DeviceRepliesLeaveDurable, DurableGoesOn, DurableIsKept, DurableKeeps, NewIsDurable, OthersLeaveDurable};
-ghost use Rattle.pk_model.specs.Histories.{AnswersAreOwn, ChangesCloseNothing, FaultsAloneClose, LegalAppends, NoDamageAfter, NoDamageAppends, NoDamageBefore, OwnReplyIsAnswer, ReplyLeavesOneOfThree, RestIsLegal};
+ghost use Rattle.pk_model.specs.Laws.{CarriedCells, ClosedStays, CurrentRows, DeletedThenNew, ElseOnlyTakes};
+ghost use Rattle.pk_model.specs.Laws.{EndLeavesRows, ExpiryDrops, ExpiryKeepsVersion, FewStay, KeysRise};
+ghost use Rattle.pk_model.specs.Laws.{LastLineActs, LawfulKeepsKeys, LegalGoesOn, LoadMakesOne, NewVersion};
+ghost use Rattle.pk_model.specs.Laws.{NumbersAreFew, OlderStay, OpensKept, OneResultPerKey, OtherCells, OtherKeys};
+ghost use Rattle.pk_model.specs.Laws.{PrefixIsLegal, RefusalsLeave, ReplayGoesOn, RowsTellKeys, WriteLeavesRow};
+ghost use Rattle.pk_model.specs.LawfulRows.{CallsKeepRows, HistoriesKeepRows, LawfulLoadsKeepRows, ListedKeysFit};
+ghost use Rattle.pk_model.specs.LawfulRows.{ListedRowsFit, NewBooksRowsAreLawful};
+ghost use Rattle.pk_model.specs.Durable.{DeviceRepliesLeaveDurable, DurableGoesOn, DurableIsKept, DurableKeeps};
+ghost use Rattle.pk_model.specs.Durable.{NewIsDurable, OthersLeaveDurable};
+ghost use Rattle.pk_model.specs.Histories.{AnswersAreOwn, ChangesCloseNothing, FaultsAloneClose, LegalAppends};
+ghost use Rattle.pk_model.specs.Histories.{NoDamageAfter, NoDamageAppends, NoDamageBefore, OwnReplyIsAnswer};
+ghost use Rattle.pk_model.specs.Histories.{ReplyLeavesOneOfThree, RestIsLegal};
 ghost use Rattle.pk_model.specs.Tasks.{EachCallHasTask, OthersAreAsWide, TaskRepliesMayCome, TasksAreNarrower};
 
 /// A load line by line gives each key the result of its own lines.

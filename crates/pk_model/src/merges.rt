@@ -9,17 +9,22 @@ ghost use Rattle.pk_model.specs.Merges.{Settles, KeepsOrder, StaysUpTo, names_ne
 use crate::calls::Op;
 use crate::lines::written_row;
 use crate::runs::{Rest, Run};
+use crate::sort_numbers::key_number;
 use pk_values::{Key, Schema};
 use std::alloc::{AllocError, Global};
 use std::collections::VecDeque;
 
-// Sorts lines by their keys. The lines of one key stay in file order.
+// Sorts lines by their keys. The lines of one key stay in file order. Numbers beside the lines are sorted first, which
+// takes no
+// look at a key. The second sort then finds the lines in order, but for keys of one number.
 pub fn sorted(mut ops: Vec<Op>) -> Result<Vec<Op>, AllocError>
     ensures rise { IfOk result (λ sorted. T (rise sorted.items)) }
-    ensures same { IfOk result (λ sorted. (s : Layout) (given : List ℕ) (m : Rows) → after_lines s given sorted.items m ≡ after_lines s given ops.items m) }
+    ensures same { IfOk result (λ sorted. (s : Layout) (given : List ℕ) (m : Rows)
+        → after_lines s given sorted.items m ≡ after_lines s given ops.items m) }
     ensures writes { IfOk result (λ sorted. writes sorted.items ≡ writes ops.items) }
     ensures count { IfOk result (λ sorted. length sorted.items ≡ length ops.items) }
 {
+    ops.sort_by_cached_key(|op| key_number(op.key()))?;
     ops.sort_by(|a, b| a.key().cmp(b.key()))?;
     Ok(ops)
 }
@@ -67,7 +72,8 @@ pub fn merge(
 ) -> Result<Run, AllocError>
     requires in_order { T (is_sorted key_cmp (written table)) }
     requires lines_rise { T (rise ops.items) }
-    ensures { IfOk result (λ done. (m : Rows) → entries m ≡ written table → entries (after_lines schema.now given.now ops.items m) ≡ written done) }
+    ensures { IfOk result (λ done. (m : Rows) → entries m ≡ written table
+        → entries (after_lines schema.now given.now ops.items m) ≡ written done) }
 {
     let mut done = Run::with_room(alloc, table.len().saturating_add(ops.len()))?;
     let mut rest = Rest::from_run(table);

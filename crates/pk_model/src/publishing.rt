@@ -72,7 +72,8 @@ pub fn publish(
 }
 
 impl Book {
-    /// Does a load, and answers it. It takes the load and sorts its lines once, so it is the quick form of `step` for one.
+    /// Does a load, and answers it. It takes the load and sorts its lines once, so it is the quick form of `step` for
+    /// one.
     ///
     /// # Errors
     /// Want of memory, which leaves the book as it was. It does not come where the book refuses the load.

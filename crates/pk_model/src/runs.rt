@@ -72,7 +72,8 @@ impl Run {
     pub fn take(&mut self, key: &Key) -> Option<Row>
         ensures found { IfSome result (λ row. written self.old ≡ written self.new ++ (key.now, row) ∷ []) }
         ensures kept { IfNone result (written self.new ≡ written self.old) }
-        ensures below { T (is_sorted key_cmp (written self.old)) → T (are_up_to key.now (written self.old)) → T (are_below key.now (written self.new)) }
+        ensures below { T (is_sorted key_cmp (written self.old)) → T (are_up_to key.now (written self.old))
+            → T (are_below key.now (written self.new)) }
     {
         if !self.ends_at(key) {
             return None;
@@ -104,7 +105,8 @@ impl Run {
     // Moves the rows up to a key behind what is written.
     pub fn advance(&mut self, rest: &mut Rest, key: &Key) -> Result<(), AllocError>
         ensures same { OnOk result (written self.new ++ unread rest.new ≡ written self.old ++ unread rest.old) }
-        ensures behind { OnOk result (T (are_up_to key.now (written self.old)) → T (are_up_to key.now (written self.new))) }
+        ensures behind { OnOk result (T (are_up_to key.now (written self.old))
+            → T (are_up_to key.now (written self.new))) }
         ensures stops { OnOk result (begins_up_to key.now (unread rest.new) ≡ false) }
     {
         while let Some((key, row)) = rest.next_up_to(key) {

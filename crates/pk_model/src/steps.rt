@@ -1,6 +1,9 @@
 ghost use Rattle.std.specs.Prelude.{◌≡◌, ◌<◌, ◌≤◌, ◌^◌, ◌+◌, IfOk, OnOk, OnErr, None, false};
 ghost use Rattle.std.specs.Option.{option_copied};
-ghost use Rattle.pk_model.specs.Books.{answer, answer_begin, answer_end, answer_expire, answer_give_up, answer_load, change, change_begin, change_end, change_expire, change_give_up, change_load, greatest_number, is_full, open_answer, open_change, plan_at, version, GivesWay, MayReply, TakesMemory};
+ghost use Rattle.pk_model.specs.Books.{answer, answer_begin, answer_end, answer_expire, answer_give_up, answer_load};
+ghost use Rattle.pk_model.specs.Books.{change, change_begin, change_end, change_expire, change_give_up, change_load};
+ghost use Rattle.pk_model.specs.Books.{greatest_number, is_full, open_answer, open_change, plan_at, version};
+ghost use Rattle.pk_model.specs.Books.{GivesWay, MayReply, TakesMemory};
 
 use crate::answers::{open, stat};
 use crate::books::{Book, Plan};
@@ -11,10 +14,12 @@ use pk_values::{Items, Schema};
 use std::alloc::{AllocError, Global};
 use std::mem;
 
-/// Does a call at a place of a history, as a tablet with no device would: the reply is the answer of the book, and the book after it is the definition's. It is plain and slow, for trials of what is fast.
+/// Does a call at a place of a history, as a tablet with no device would: the reply is the answer of the book, and the
+/// book after it is the definition's. It is plain and slow, for trials of what is fast.
 ///
 /// # Errors
-/// Want of memory, which leaves the book as it was. It comes of a load or a `Begin` alone, and only of one that the book does not refuse.
+/// Want of memory, which leaves the book as it was. It comes of a load or a `Begin` alone, and only of one that the
+/// book does not refuse.
 pub fn step(
     alloc: Global,
     schema: &Schema,

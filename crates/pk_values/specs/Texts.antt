@@ -1,5 +1,5 @@
 -- Where a text's bytes lie.
-use Rattle.std.specs.Prelude.{ℕ, ◌≤◌, List, length, ⊤}
+use Rattle.std.specs.Prelude.{ℕ, ◌≤◌, List, length}
 use Rattle.pk_values.specs.declared.octets.Held.{Held}
 use Rattle.pk_values.specs.declared.octets.Held.TheVariants.{InPlace, Apart}
 

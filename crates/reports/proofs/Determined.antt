@@ -9,14 +9,17 @@ use Rattle.pk_model.specs.Books.{Entry, IsLegal, answer, next}
 use Rattle.pk_values.specs.Schemas.{Layout}
 use Rattle.script_text.specs.declared.outcomes.Item.{Item}
 use Rattle.script_text.specs.declared.outcomes.Outcome.{Outcome}
+use Rattle.dev_traits.specs.Streams.{Files}
+use Rattle.script_text.specs.declared.scripts.Job.{Job}
+use Rattle.reports.specs.Filed.{AreHeld, HasItsFile, file_name}
 use Rattle.reports.specs.declared.jobs.FiledJob.{FiledJob}
 use Rattle.reports.specs.declared.turns.Turn.{Turn}
 use Rattle.reports.specs.Jobs.{first_place, job_at, load_in, part_call, turns_of}
 use Rattle.reports.specs.Courses.{IsCourse}
 use Rattle.reports.specs.Orders.{EachJob}
-use Rattle.reports.specs.Reports.{AreEntries, ArePlaced, HasRun, IsEntry, IsTurnOf, TellsTheRows, book_at, item_of}
+use Rattle.reports.specs.Reports.{AreEntries, ArePlaced, HasRun, Reports, IsEntry, IsTurnOf, TellsTheRows, book_at, item_of}
 use Rattle.reports.specs.Calm.{IsOfBook, IsUndisturbed}
-use Rattle.reports.specs.Laws.{OrderDetermines}
+use Rattle.reports.specs.Laws.{OrderDetermines, ScriptDetermines}
 use Rattle.reports.proofs.CalmCourses.{AreOfBook, book-answers, calm-course, on-both, same-course}
 
 -- ---- lists
@@ -195,3 +198,25 @@ order-determines s book jobs order os ps r q u w =
     let rows : HaveRows (book_at s book r.entries) r.turns 1 jobs ps =
     subst (λ ts. HaveRows (book_at s book r.entries) ts 1 jobs ps) (sym same.0) (subst (λ es. HaveRows (book_at s book es) q.turns 1 jobs ps) (sym same.1) k.rows) in
     same-outcomes s (book_at s book r.entries) r.turns 1 jobs os ps h.fits.courses courses h.rows rows u w
+
+-- ---- inputs that tell determine the files
+
+same-file : (fs : Files) (name : Option (List ℕ)) (a b : List ℕ) → AreHeld (Some fs) name a → AreHeld (Some fs) name b → a ≡ b
+same-file fs None a b h k = h ∙ sym k
+same-file fs (Some name) a b h k = same_Some a b (sym h.1 ∙ k.1)
+
+same-filed : (fs : Files) (xs ys : List FiledJob) → map (λ (f : FiledJob). f.job) xs ≡ map (λ (f : FiledJob). f.job) ys
+    → AllByRecursion (HasItsFile (Some fs)) xs → AllByRecursion (HasItsFile (Some fs)) ys → xs ≡ ys
+same-filed fs [] [] e h k = refl
+same-filed fs [] (y ∷ ys) e h k = absurd (nil-cons y.job (map (λ (f : FiledJob). f.job) ys) e)
+same-filed fs (x ∷ xs) [] e h k = absurd (cons-nil x.job (map (λ (f : FiledJob). f.job) xs) e)
+same-filed fs (x ∷ xs) (y ∷ ys) e h k =
+    let job : x.job ≡ y.job = head-same x.job y.job (map (λ (f : FiledJob). f.job) xs) (map (λ (f : FiledJob). f.job) ys) e in
+    let file : x.file ≡ y.file = same-file fs (file_name x.job.act) x.file y.file h.0 (subst (λ (j : Job). AreHeld (Some fs) (file_name j.act) y.file) (sym job) k.0) in
+    let rest = same-filed fs xs ys (tail-same x.job y.job (map (λ (f : FiledJob). f.job) xs) (map (λ (f : FiledJob). f.job) ys) e) h.1 k.1 in
+    λ i. (record { job = job i; file = file i }) ∷ rest i
+
+pub script-determines : ScriptDetermines
+script-determines s book fs script jobs others order os ps a b r q u w =
+    let same = same-filed fs jobs others (a.jobs_are ∙ sym b.jobs_are) a.held b.held in
+    order-determines s book jobs order os ps r (subst (λ js. Reports s book js order ps) (sym same) q) u w

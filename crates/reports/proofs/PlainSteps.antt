@@ -34,11 +34,11 @@ use Rattle.script_text.specs.declared.outcomes.Outcome.TheVariants as outcome
 use Rattle.reports.specs.declared.jobs.FiledJob.{FiledJob}
 use Rattle.reports.specs.declared.plain.Course.{Course}
 use Rattle.reports.specs.declared.turns.Turn.{Turn}
-use Rattle.reports.specs.Jobs.{PartMayGet, call_of, first_place, load_call, load_in, look_up_call, part_call}
+use Rattle.reports.specs.Jobs.{PartMayGet, call_of, first_place, is_partial, load_call, load_in, look_up_call, part_call}
 use Rattle.reports.specs.Courses.{AreRowsOf, CompactEnds, CompactGoesOn, CompactMerged, HasTurns, IsCourse, IsOutside, PartialGoesOn, ReadingTells, ScanEnds, WithoutTurn}
 use Rattle.reports.specs.Reports.{HasItsRows}
 use Rattle.reports.specs.Calm.{IsOfBook}
-use Rattle.reports.specs.Plain.{AnswersPlainly, Does, Ends, IsTaken, RowsTold, ScanTells, Takes, TellsReply, Told, WasRun}
+use Rattle.reports.specs.Plain.{AnswersPlainly, Does, Ends, IsOfMemory, IsTaken, RowsTold, ScanTells, Takes, TellsReply, Told, WasRun}
 use Rattle.reports.specs.Texts.{HasTexts, HaveTexts}
 use Rattle.reports.proofs.CalmCourses.{device-apart}
 use Rattle.reports.proofs.PlainLaws.{add-none, add-one-turn, add-two-turns}
@@ -258,8 +258,31 @@ partial-course : (t u : Turn) (v : ℕ) (q : Reply) → t.part ≡ part.First �
 partial-course t u v q p e l f =
     (p, subst (λ r. PartialGoesOn (outcome.Turn q) r (u ∷ [])) (sym e) (l, (refl, ap outcome.Turn (sym f))))
 
-turn-run : (r : Reply) → WasRun (outcome.Turn r)
-turn-run r h = h
+own-memory : (r : Reply) → IsOfBook r → IsOfMemory r
+own-memory (reply.Published v) h = tt
+own-memory (reply.Opened v) h = tt
+own-memory (reply.Begun v) h = tt
+own-memory (reply.Compacted before after rows late) h = tt
+own-memory (reply.Floor f) h = tt
+own-memory (reply.Stat floor version rows rowsets) h = tt
+own-memory reply.GaveUp h = tt
+own-memory (reply.Expired f) h = tt
+own-memory (reply.NotYet v) h = tt
+own-memory (reply.Busy v) h = tt
+own-memory reply.ManyVersions h = tt
+own-memory (reply.Closed at) h = tt
+own-memory (reply.StoreFault x) h = absurd h
+own-memory (reply.Damaged d) h = absurd h
+own-memory reply.Memory h = absurd h
+own-memory reply.NoPlan h = tt
+own-memory (reply.Worn x) h = absurd h
+
+-- a turn's reply is the book's own, or want of memory
+pub turn-run : (b : Book) (c : Call) (r : Reply) → AnswersPlainly b c r → WasRun (outcome.Turn r)
+turn-run b c r h = elim h [
+  | inl is ↦ subst IsOfMemory (sym is) (own-memory (answer b c) (answers-own b c))
+  | inr wants ↦ subst IsOfMemory (sym wants.0) tt
+]
 
 -- ---- jobs of one turn
 
@@ -277,7 +300,7 @@ whole-does s number c r old mid new j valid taken takes told tells calls book jo
     (tells-listed old.book j.job.act (load_in s j) c r tells (calls []) takes.plainly)
     (λ t p q. tells-course j.job.act t r tells p q)
     tt
-    (turn-run r)
+    (turn-run old.book c r takes.plainly)
     (told.book ∙ takes.book)
     (subst HaveTexts (sym (told.book ∙ takes.book)) (next-texts s valid old.book h.texts (length old.order + 1) c r taken))
     (told.order ∙ takes.order ∙ ap (λ (n : ℕ). old.order ++ (record { job = n; part = part.Whole }) ∷ []) e)
@@ -298,6 +321,7 @@ refused-tells r f h = by f h
     by (fault.UnknownName c) k = told (fault.UnknownName c) (k (λ e. cc))
     by (fault.NameTwice c) k = told (fault.NameTwice c) (k (λ e. cc))
     by (fault.Missing c) k = told (fault.Missing c) (k (λ e. cc))
+    by (fault.NoDefault c) k = told (fault.NoDefault c) (k (λ e. cc))
     by fault.ManyRows k = told fault.ManyRows (k (λ e. cc))
     by (fault.Width n) k = told (fault.Width n) (k (λ e. cc))
     by (fault.BadOp n) k = told (fault.BadOp n) (k (λ e. cc))
@@ -315,20 +339,24 @@ load-names a name e load f h = subst (λ x. WithoutTurn x load (outcome.Load f))
 pub partial-names : (a : JobAct) (name : List ℕ) → a ≡ act.Partial name → NamesFile a
 partial-names a name e load f h = subst (λ x. WithoutTurn x load (outcome.Load f)) (sym e) h
 
-pub refused-does : (s : Layout) (number : ℕ) (f : LoadFault) (file : List ℕ) (old new : Course) (j : FiledJob)
-    → NamesFile j.job.act → j.file ≡ file → (f ≢ fault.Memory → load_of s file ≡ Err f) → Told old new (outcome.Load f)
+-- what a job's file stands for, by the job's kind
+pub load-is : (s : Layout) (j : FiledJob) (partial : Truth) (file : List ℕ) → is_partial j.job.act ≡ partial → j.file ≡ file → load_in s j ≡ load_of s partial file
+load-is s j partial file kind same = λ i. load_of s (kind i) (same i)
+
+pub refused-does : (s : Layout) (number : ℕ) (f : LoadFault) (partial : Truth) (file : List ℕ) (old new : Course) (j : FiledJob)
+    → NamesFile j.job.act → is_partial j.job.act ≡ partial → j.file ≡ file → (f ≢ fault.Memory → load_of s partial file ≡ Err f) → Told old new (outcome.Load f)
     → Does s number j old new
-refused-does s number f file old new j names same h told book jobs e come =
+refused-does s number f partial file old new j names kind same h told book jobs e come =
     add-none s book jobs old come j (outcome.Load f) new
-    (names (load_in s j) f (subst (λ x. ReadingTells (load_of s x) f) (sym same) (refused-tells (load_of s file) f h)))
-    (λ x. x)
+    (names (load_in s j) f (subst (λ x. ReadingTells x f) (sym (load-is s j partial file kind same)) (refused-tells (load_of s partial file) f h)))
+    tt
     told.book told.order told.outcomes
 
 -- a load that was read
-pub load-calls : (s : Layout) (j : FiledJob) (name file : List ℕ) (load : Load) → j.job.act ≡ act.Load name → j.file ≡ file → load_of s file ≡ Ok load
+pub load-calls : (s : Layout) (j : FiledJob) (name file : List ℕ) (load : Load) → j.job.act ≡ act.Load name → j.file ≡ file → load_of s false file ≡ Ok load
     → (mine : List Turn) → call_of s j mine part.Whole ≡ Some (call.Load load)
 load-calls s j name file load e same read mine =
-    ap (λ a. part_call a (load_in s j) (first_place mine) part.Whole) e ∙ ap load_call (ap (load_of s) same ∙ read)
+    ap (λ a. part_call a (load_in s j) (first_place mine) part.Whole) e ∙ ap load_call (load-is s j false file (ap is_partial e) same ∙ read)
 
 pub load-tells : (a : JobAct) (name : List ℕ) → a ≡ act.Load name → TellsReply a
 load-tells a name e = subst TellsReply (sym e) tt
@@ -476,7 +504,7 @@ first-does s number c r old mid new j valid taken calls listed course takes told
     listed
     (λ t p q. course t p q)
     tt
-    (turn-run r)
+    (turn-run old.book c r takes.plainly)
     (told.book ∙ takes.book)
     (subst HaveTexts (sym (told.book ∙ takes.book)) (next-texts s valid old.book h.texts (length old.order + 1) c r taken))
     (told.order ∙ takes.order ∙ ap (λ (n : ℕ). old.order ++ (record { job = n; part = part.First }) ∷ []) e)
@@ -504,7 +532,7 @@ both-do s number c d r old mid new j valid taken taken_too ends calls last liste
     (may-reply old.book c r takes.plainly) (may-reply mid.book d q ended.plainly)
     listed late course
     (λ b. tt)
-    (turn-run q)
+    (turn-run mid.book d q ended.plainly)
     takes.book after
     (subst HaveTexts (sym after) (next-texts s valid mid.book texts (length old.order + 2) d q taken_too))
     (told.order ∙ ended.order ∙ ap (λ (xs : List Item). xs ++ u ∷ []) takes.order ∙ append_assoc old.order (t ∷ []) (u ∷ [])

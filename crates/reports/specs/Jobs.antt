@@ -1,5 +1,5 @@
 -- What a job of a script asks for, turn by turn.
-use Rattle.std.specs.Prelude.{ℕ, zero, suc, List, [], ◌∷◌, filter, slice_get, Option, Some, None, option_map, unwrap_or, Result, Ok, Err, ◌==◌, IsSomeAnd}
+use Rattle.std.specs.Prelude.{ℕ, zero, suc, List, [], ◌∷◌, filter, slice_get, Option, Some, None, option_map, unwrap_or, Result, Ok, Err, Bool as Truth, true, false, ◌==◌, IsSomeAnd}
 use Rattle.pk_values.specs.Schemas.{Layout}
 use Rattle.load_csv.specs.Loads.{load_of}
 use Rattle.load_csv.specs.declared.loads.LoadFault.{LoadFault}
@@ -18,9 +18,14 @@ use Rattle.script_text.specs.declared.outcomes.ItemPart.TheVariants as part
 use Rattle.reports.specs.declared.jobs.FiledJob.{FiledJob}
 use Rattle.reports.specs.declared.turns.Turn.{Turn}
 
+-- a partial load's file may leave columns out
+abbrev pub is_partial : JobAct → Truth
+is_partial (act.Partial name) = true
+is_partial a = false
+
 -- the load that a job's file stands for, or its first fault
 abbrev pub load_in : Layout → FiledJob → Result Load LoadFault
-load_in s j = load_of s j.file
+load_in s j = load_of s (is_partial j.job.act) j.file
 
 -- the job of a number: jobs are numbered from 1, so none has the number 0
 abbrev pub job_at : List FiledJob → ℕ → Option FiledJob

@@ -13,6 +13,9 @@ use Rattle.script_text.specs.declared.outcomes.ItemPart.{ItemPart}
 use Rattle.script_text.specs.declared.outcomes.Outcome.{Outcome}
 use Rattle.reports.specs.declared.jobs.FiledJob.{FiledJob}
 use Rattle.reports.specs.Jobs.{part_call, task_of}
+use Rattle.dev_traits.specs.Streams.{Files}
+use Rattle.script_text.specs.declared.scripts.Job.{Job}
+use Rattle.reports.specs.Filed.{AreFiled}
 use Rattle.reports.specs.Reports.{Reports}
 use Rattle.reports.specs.Calm.{IsUndisturbed}
 
@@ -25,4 +28,11 @@ CallsAreOfTasks = (a : JobAct) (p : ItemPart) (load : Result Load LoadFault) (be
 abbrev pub OrderDetermines : Type 0
 OrderDetermines = (s : Layout) (book : Book) (jobs : List FiledJob) (order : List Item) (os ps : List Outcome)
     → Reports s book jobs order os → Reports s book jobs order ps
+    → AllByRecursion IsUndisturbed os → AllByRecursion IsUndisturbed ps → os ≡ ps
+
+-- so where inputs tell, a script, its files, the opening book and the order do
+abbrev pub ScriptDetermines : Type 0
+ScriptDetermines = (s : Layout) (book : Book) (fs : Files) (script : List Job) (jobs others : List FiledJob) (order : List Item) (os ps : List Outcome)
+    → AreFiled (Some fs) script jobs → AreFiled (Some fs) script others
+    → Reports s book jobs order os → Reports s book others order ps
     → AllByRecursion IsUndisturbed os → AllByRecursion IsUndisturbed ps → os ≡ ps

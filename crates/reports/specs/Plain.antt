@@ -17,12 +17,13 @@ use Rattle.script_text.specs.declared.outcomes.ItemPart.{ItemPart}
 use Rattle.script_text.specs.declared.outcomes.ItemPart.TheVariants as part
 use Rattle.script_text.specs.declared.outcomes.Outcome.{Outcome}
 use Rattle.script_text.specs.declared.outcomes.Outcome.TheVariants as outcome
+use Rattle.dev_traits.specs.declared.faults.OutsideFault.TheVariants as outside
 use Rattle.reports.specs.declared.jobs.FiledJob.{FiledJob}
 use Rattle.reports.specs.declared.plain.Course.{Course}
 use Rattle.reports.specs.declared.turns.Turn.{Turn}
 use Rattle.script_text.specs.Texts.{rows_text}
 use Rattle.reports.specs.Courses.{IsOutside}
-use Rattle.reports.specs.Orders.{Each, IsNotRun}
+use Rattle.reports.specs.Orders.{Each}
 use Rattle.reports.specs.Reports.{item_of}
 use Rattle.reports.specs.Notes.{AreNotes, Note, Rise, outcomes_in, turns_in}
 use Rattle.reports.specs.Texts.{HaveTexts}
@@ -38,8 +39,22 @@ AnswersPlainly b c r = (r ≡ answer b c) ⊎ ((r ≡ reply.Memory) × MayReply 
 abbrev pub InJobOrder : Turn → Turn → Type 0
 InJobOrder t u = t.job ≤ u.job
 
+-- a book in memory has no device: of its replies only want of memory isn't the book's own
+abbrev pub IsOfMemory : Reply → Type 0
+IsOfMemory (reply.StoreFault n) = ⊥
+IsOfMemory (reply.Damaged d) = ⊥
+IsOfMemory (reply.Worn n) = ⊥
+IsOfMemory r = ⊤
+
+-- a job was run over a book in memory: no device failed under it
 abbrev pub WasRun : Outcome → Type 0
-WasRun o = IsNotRun o → ⊥
+WasRun (outcome.Turn r) = IsOfMemory r
+WasRun (outcome.Rows v count text) = ⊤
+WasRun (outcome.Load f) = ⊤
+WasRun (outcome.Outside outside.Fault) = ⊥
+WasRun (outcome.Outside outside.Memory) = ⊤
+WasRun (outcome.Outside (outside.Damaged d)) = ⊥
+WasRun outcome.NotRun = ⊥
 
 -- these jobs were done from this book on, and this is how far that has come
 pub record HasCome (s : Layout) (book : Book) (jobs : List FiledJob) (now : Course) : Type 0 where

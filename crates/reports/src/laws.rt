@@ -3,7 +3,7 @@ ghost use Rattle.reports.specs.Closings.{ClosedAtFault, FaultCloses};
 ghost use Rattle.reports.specs.Endings.{EndingHasStatus, EndingIsTold, NoneIsWorse};
 ghost use Rattle.reports.specs.Gathers.{AllPlacesSort, LaneComesInOrder, NumberedAreNotes};
 ghost use Rattle.reports.specs.Lanes.{LanesMakeReport};
-ghost use Rattle.reports.specs.Laws.{CallsAreOfTasks, OrderDetermines};
+ghost use Rattle.reports.specs.Laws.{CallsAreOfTasks, OrderDetermines, ScriptDetermines};
 ghost use Rattle.reports.specs.Reports.{ReportsFollow};
 ghost use Rattle.reports.specs.Notes.{NotesMakeRun, NotesStay, TurnsStay};
 
@@ -26,7 +26,8 @@ pub fn follows()
 
 /// What decides a report.
 pub fn determinism()
-    ensures { OrderDetermines }
+    ensures order { OrderDetermines }
+    ensures script { ScriptDetermines }
 {}
 
 /// How what lanes note of their jobs makes a run.

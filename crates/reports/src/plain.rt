@@ -9,7 +9,7 @@ ghost use Rattle.pk_model.specs.Books.{greatest_number, next, rows_at};
 ghost use Rattle.script_text.specs.Texts.{AreWritable};
 ghost use Rattle.reports.specs.Jobs.{call_of, load_in};
 ghost use Rattle.reports.specs.declared.turns.Turn.{Turn};
-ghost use Rattle.reports.specs.Plain.{AnswersPlainly, Does, Ends, HasCome, HasFewBytes, IsTaken, PhasesRise, RowsTold, ScanTells, Takes, TellsReply, Told, WasRun};
+ghost use Rattle.reports.specs.Plain.{AnswersPlainly, Does, Ends, HasCome, HasFewBytes, IsOfMemory, IsTaken, PhasesRise, RowsTold, ScanTells, Takes, TellsReply, Told, WasRun};
 ghost use Rattle.reports.specs.Reports.{Reports};
 ghost use Rattle.reports.specs.Texts.{HaveTexts};
 
@@ -62,6 +62,7 @@ fn rows_outcome(alloc: Global, version: u64, rows: &[Row]) -> Outcome
 // What becomes of a scan that was answered so.
 fn scan_outcome(alloc: Global, book: &Book, reply: Reply) -> Outcome
     requires texts { HaveTexts book.now }
+    requires plain { IsOfMemory reply }
     requires kept { (v : ℕ) → reply ≡ Reply.Opened v → IsSomeAnd (rows_at book.now v) (λ m. ⊤) }
     ensures told { ScanTells book.now reply result }
     ensures run { WasRun result }
@@ -149,7 +150,7 @@ impl Course {
         requires within { length file.now ≤ 67108864 }
         ensures { OnOk result ((j : FiledJob) (name : List ℕ) → j.job.act ≡ JobAct.Load name → j.file ≡ file.now → Does schema.now number j self.old self.new) }
     {
-        match read_load(alloc, schema, file) {
+        match read_load(alloc, schema, file, false) {
             Ok(load) => self.whole(alloc, schema, number, &Call::Load(load)),
             Err(refused) => self.tell(Outcome::Load(refused)),
         }
@@ -226,7 +227,7 @@ impl Course {
         requires within { length file.now ≤ 67108864 }
         ensures { OnOk result ((j : FiledJob) (name : List ℕ) → j.job.act ≡ JobAct.Partial name → j.file ≡ file.now → Does schema.now number j self.old self.new) }
     {
-        match read_load(alloc, schema, file) {
+        match read_load(alloc, schema, file, true) {
             Ok(load) => self.update(alloc, schema, number, load),
             Err(fault) => self.tell(Outcome::Load(fault)),
         }
@@ -273,7 +274,8 @@ pub fn run_jobs(
     requires texts { HaveTexts book }
     requires within { AllByRecursion HasFewBytes jobs.now }
     requires phases { PhasesRise jobs.now }
-    ensures { IfOk result (λ course. Reports schema.now book jobs.now course.order course.outcomes) }
+    ensures reports { IfOk result (λ course. Reports schema.now book jobs.now course.order course.outcomes) }
+    ensures plain { IfOk result (λ course. AllByRecursion WasRun course.outcomes) }
 {
     let mut course = Course {
         book,

@@ -3,4 +3,3 @@ pub mod Answers
 pub mod Cuts
 pub mod Lines
 pub mod Texts
-pub mod Reports

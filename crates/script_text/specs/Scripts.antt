@@ -8,8 +8,8 @@ use Rattle.pk_model.specs.declared.calls.Want.TheVariants.{Latest, At}
 use Rattle.cell_text.specs.Cells.{digits_of, is_word}
 use Rattle.cell_text.specs.Readings.{if_at_most}
 use Rattle.load_csv.specs.Results.{◌and_then◌}
-use Rattle.script_text.specs.declared.lines.Line.{Line}
-use Rattle.script_text.specs.declared.lines.Line.TheVariants.{Skipped, PhaseEnd, Work}
+use Rattle.script_text.specs.declared.lines.ScriptLine.{ScriptLine}
+use Rattle.script_text.specs.declared.lines.ScriptLine.TheVariants.{Skipped, PhaseEnd, Work}
 use Rattle.script_text.specs.declared.scripts.Job.{Job}
 use Rattle.script_text.specs.declared.scripts.JobAct.{JobAct}
 use Rattle.script_text.specs.declared.scripts.JobAct.TheVariants.{Load, Partial, Scan, Compact, Expire, Stat}
@@ -59,15 +59,15 @@ abbrev pub file_of : List ℕ → Result (List ℕ) ScriptCause
 file_of word = if is_file_name word then Ok word else Err BadName
 
 -- the number that 1 to 20 decimal digits spell, if it is below 2 ^ 64
-abbrev pub number_of : List ℕ → Option ℕ
-number_of word = if nat_le (length word) 20 then option_and_then (if_at_most 18446744073709551615) (digits_of word) else None
+abbrev pub number_spelled : List ℕ → Option ℕ
+number_spelled word = if nat_le (length word) 20 then option_and_then (if_at_most 18446744073709551615) (digits_of word) else None
 
 abbrev pub number_or_fault : Option ℕ → Result ℕ ScriptCause
 number_or_fault None = Err BadVersion
 number_or_fault (Some n) = Ok n
 
 abbrev pub version_of : List ℕ → Result ℕ ScriptCause
-version_of word = number_or_fault (number_of word)
+version_of word = number_or_fault (number_spelled word)
 
 abbrev pub at : ℕ → Result Want ScriptCause
 at version = Ok (At version)
@@ -110,19 +110,19 @@ abbrev pub is_wait : List ℕ → List (List ℕ) → Truth
 is_wait first [] = is_word first (codes "wait")
 is_wait first (word ∷ more) = false
 
-abbrev pub work_of : List ℕ → List (List ℕ) → Result Line ScriptCause
+abbrev pub work_of : List ℕ → List (List ℕ) → Result ScriptLine ScriptCause
 work_of first after = lane_of first and_then (λ lane. job_of after and_then (λ act. Ok (Work lane act)))
 
 -- a line without words and one whose first word begins with `#` are skipped
-abbrev pub line_of_words : List (List ℕ) → Result Line ScriptCause
+abbrev pub line_of_words : List (List ℕ) → Result ScriptLine ScriptCause
 line_of_words [] = Ok Skipped
 line_of_words (first ∷ after) =
     if begins_with 35 first then Ok Skipped
     else if is_wait first after then Ok PhaseEnd
     else work_of first after
 
-abbrev pub line_of : List ℕ → Result Line ScriptCause
-line_of line = line_of_words (words_of line)
+abbrev pub script_line_of : List ℕ → Result ScriptLine ScriptCause
+script_line_of line = line_of_words (words_of line)
 
 -- ---- the script
 
@@ -137,13 +137,13 @@ abbrev pub with_job : ℕ → List Job → Job → Result (List Job) ScriptFault
 with_job number jobs job = if nat_lt (length jobs) most_jobs then Ok (jobs ++ job ∷ []) else wrong number ManyJobs
 
 -- the jobs, behind them that of the line of this number, which stands in this phase
-abbrev pub with_line : ℕ → ℕ → List Job → Result Line ScriptCause → Result (List Job) ScriptFault
+abbrev pub with_line : ℕ → ℕ → List Job → Result ScriptLine ScriptCause → Result (List Job) ScriptFault
 with_line number phase jobs (Err cause) = wrong number cause
 with_line number phase jobs (Ok Skipped) = Ok jobs
 with_line number phase jobs (Ok PhaseEnd) = Ok jobs
 with_line number phase jobs (Ok (Work lane act)) = with_job number jobs (record { lane = lane; phase = phase; act = act })
 
-abbrev pub phase_after : ℕ → Result Line ScriptCause → ℕ
+abbrev pub phase_after : ℕ → Result ScriptLine ScriptCause → ℕ
 phase_after phase (Err cause) = phase
 phase_after phase (Ok Skipped) = phase
 phase_after phase (Ok PhaseEnd) = phase + 1
@@ -152,7 +152,7 @@ phase_after phase (Ok (Work lane act)) = phase
 -- the jobs of lines, the first of which has this number and stands in this phase, behind the jobs before them
 abbrev pub jobs_of : ℕ → ℕ → List Job → List (List ℕ) → Result (List Job) ScriptFault
 jobs_of number phase jobs [] = Ok jobs
-jobs_of number phase jobs (line ∷ rest) = with_line number phase jobs (line_of line) and_then (λ more. jobs_of (number + 1) (phase_after phase (line_of line)) more rest)
+jobs_of number phase jobs (line ∷ rest) = with_line number phase jobs (script_line_of line) and_then (λ more. jobs_of (number + 1) (phase_after phase (script_line_of line)) more rest)
 
 abbrev pub script_with : List Job → Result Script ScriptFault
 script_with jobs = Ok (record { jobs = jobs })

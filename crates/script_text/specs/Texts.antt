@@ -108,6 +108,7 @@ load_word fault.NoHeader = codes "load-fault no-header"
 load_word (fault.UnknownName c) = codes "load-fault unknown-name column "
 load_word (fault.NameTwice c) = codes "load-fault name-twice column "
 load_word (fault.Missing i) = codes "load-fault missing column "
+load_word (fault.NoDefault i) = codes "load-fault no-default column "
 load_word fault.ManyRows = codes "load-fault many-rows"
 load_word (fault.Width r) = codes "load-fault width row "
 load_word (fault.BadOp r) = codes "load-fault bad-op row "
@@ -115,12 +116,13 @@ load_word (fault.BadCell r c) = codes "load-fault bad-cell row "
 load_word (fault.KeyTooLong r l) = codes "load-fault key-too-long row "
 load_word fault.Memory = codes "memory"
 
--- where it is: rows are those of the file behind its header, columns those of the file, but the table's where one is missing
+-- where it is: rows are those of the file behind its header, columns those of the file, but the table's where one is missing or has no default
 abbrev pub load_place : LoadFault → List ℕ
 load_place fault.NoHeader = []
 load_place (fault.UnknownName c) = decimal c
 load_place (fault.NameTwice c) = decimal c
 load_place (fault.Missing i) = decimal i
+load_place (fault.NoDefault i) = decimal i
 load_place fault.ManyRows = []
 load_place (fault.Width r) = decimal r
 load_place (fault.BadOp r) = decimal r

@@ -80,6 +80,7 @@ fn load_word(fault: LoadFault) -> &'static [u8]
         LoadFault::UnknownName(_) => b"load-fault unknown-name column ",
         LoadFault::NameTwice(_) => b"load-fault name-twice column ",
         LoadFault::Missing(_) => b"load-fault missing column ",
+        LoadFault::NoDefault(_) => b"load-fault no-default column ",
         LoadFault::ManyRows => b"load-fault many-rows",
         LoadFault::Width(_) => b"load-fault width row ",
         LoadFault::BadOp(_) => b"load-fault bad-op row ",
@@ -97,7 +98,8 @@ fn put_load_place(out: &mut Vec<u8>, fault: LoadFault) -> Result<(), AllocError>
         LoadFault::NoHeader | LoadFault::ManyRows | LoadFault::Memory => Ok(()),
         LoadFault::UnknownName(column)
         | LoadFault::NameTwice(column)
-        | LoadFault::Missing(column) => put_number(out, u64::from(column)),
+        | LoadFault::Missing(column)
+        | LoadFault::NoDefault(column) => put_number(out, u64::from(column)),
         LoadFault::Width(row) | LoadFault::BadOp(row) => put_number(out, u64::from(row)),
         LoadFault::BadCell(row, column) => {
             put_number(out, u64::from(row))?;

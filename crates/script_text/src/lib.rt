@@ -11,7 +11,6 @@ mod reading;
 mod reports;
 mod rows;
 mod scripts;
-mod tasks;
 mod words;
 
 pub use outcomes::{Item, ItemPart, Outcome};
@@ -19,4 +18,3 @@ pub use reading::read_script;
 pub use reports::write_report;
 pub use rows::put_rows;
 pub use scripts::{Job, JobAct, Script, ScriptCause, ScriptFault};
-pub use tasks::Task;

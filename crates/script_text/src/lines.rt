@@ -1,5 +1,5 @@
 ghost use Rattle.std.specs.Prelude.{◌≡◌, ◌≤◌, IfOk};
-ghost use Rattle.script_text.specs.Scripts.{is_wait, lane_number, lane_of, line_of, work_of, words_of};
+ghost use Rattle.script_text.specs.Scripts.{is_wait, lane_number, lane_of, script_line_of, work_of, words_of};
 ghost use Rattle.script_text.specs.Answers.{IsTold};
 ghost use Rattle.script_text.specs.Lines.{IsLine};
 
@@ -10,7 +10,7 @@ use std::alloc::Global;
 
 /// What a line of a script is.
 #[derive(Drop)]
-pub enum Line {
+pub enum ScriptLine {
     /// It has no word, or is a comment.
     Skipped,
     /// It ends a phase.
@@ -59,32 +59,32 @@ fn is_wait(first: &[u8], after: &[u8]) -> bool
 }
 
 // A job in a lane.
-fn read_work(alloc: Global, first: &[u8], after: &[u8]) -> Result<Line, ScriptCause>
+fn read_work(alloc: Global, first: &[u8], after: &[u8]) -> Result<ScriptLine, ScriptCause>
     ensures told { IsTold (work_of first.now (words_of after.now)) result }
     ensures lawful { IfOk result (λ line. IsLine line) }
 {
     match lane(first) {
         Ok(lane) => {
             let act = read_job(alloc, after)?;
-            Ok(Line::Work(lane, act))
+            Ok(ScriptLine::Work(lane, act))
         }
         Err(cause) => Err(cause),
     }
 }
 
 /// What a line is, without its end.
-pub fn read_line(alloc: Global, line: &[u8]) -> Result<Line, ScriptCause>
-    ensures told { IsTold (line_of line.now) result }
+pub fn read_line(alloc: Global, line: &[u8]) -> Result<ScriptLine, ScriptCause>
+    ensures told { IsTold (script_line_of line.now) result }
     ensures lawful { IfOk result (λ line. IsLine line) }
 {
     let Some((first, after)) = next_word(line) else {
-        return Ok(Line::Skipped);
+        return Ok(ScriptLine::Skipped);
     };
     if begins_with(b'#', first) {
-        return Ok(Line::Skipped);
+        return Ok(ScriptLine::Skipped);
     }
     if is_wait(first, after) {
-        return Ok(Line::PhaseEnd);
+        return Ok(ScriptLine::PhaseEnd);
     }
     read_work(alloc, first, after)
 }

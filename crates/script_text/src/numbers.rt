@@ -1,7 +1,7 @@
 ghost use Rattle.std.specs.Prelude.{◌≡◌, option_and_then};
 ghost use Rattle.cell_text.specs.Cells.{digits_after, digits_of};
 ghost use Rattle.cell_text.specs.Readings.{if_at_most};
-ghost use Rattle.script_text.specs.Scripts.{number_of};
+ghost use Rattle.script_text.specs.Scripts.{number_spelled};
 
 // The greatest version.
 const MOST: u128 = 0xffff_ffff_ffff_ffff;
@@ -35,7 +35,7 @@ fn magnitude(bytes: &[u8]) -> Option<u128>
 
 /// The number that 1 to 20 decimal digits spell, if it fits 64 bits.
 pub fn read_number(word: &[u8]) -> Option<u64>
-    ensures { result ≡ number_of word.now }
+    ensures { result ≡ number_spelled word.now }
 {
     if word.len() > 20 {
         return None;

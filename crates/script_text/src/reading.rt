@@ -1,9 +1,9 @@
 ghost use Rattle.std.specs.Prelude.{◌≡◌, ◌≤◌, ◌<◌, ◌+◌, ◌^◌, IfErr, IfOk, OnOk, Ok, length};
-ghost use Rattle.script_text.specs.Scripts.{line_of, phase_after, script_of, with_job, with_line};
+ghost use Rattle.script_text.specs.Scripts.{script_line_of, phase_after, script_of, with_job, with_line};
 ghost use Rattle.script_text.specs.Answers.{AreJobs, AreWithin, IsAnswer, IsFault, IsJob, IsScript, line_told};
 ghost use Rattle.script_text.specs.Lines.{IsLine};
 
-use crate::lines::{Line, read_line};
+use crate::lines::{ScriptLine, read_line};
 use crate::scripts::{Job, Script, ScriptCause, ScriptFault};
 use crate::words::next_line;
 use pk_values::Items;
@@ -48,7 +48,7 @@ fn add_job(jobs: &mut Items<Job>, number: u64, job: Job) -> Result<(), ScriptFau
 }
 
 // Puts the job of a line, if it has one, behind the others, and tells the phase after the line.
-fn add(jobs: &mut Items<Job>, number: u64, phase: u32, line: Line) -> Result<u32, ScriptFault>
+fn add(jobs: &mut Items<Job>, number: u64, phase: u32, line: ScriptLine) -> Result<u32, ScriptFault>
     requires from { 1 ≤ phase }
     requires to { phase + 1 < 2 ^ 32 }
     requires old { AreJobs jobs.old }
@@ -61,9 +61,9 @@ fn add(jobs: &mut Items<Job>, number: u64, phase: u32, line: Line) -> Result<u32
     ensures err { IfErr result (λ fault. IsFault (with_line number phase jobs.old (Ok line)) fault.line fault.cause) }
 {
     match line {
-        Line::Skipped => Ok(phase),
-        Line::PhaseEnd => Ok(phase + 1),
-        Line::Work(lane, act) => match add_job(jobs, number, Job { lane, phase, act }) {
+        ScriptLine::Skipped => Ok(phase),
+        ScriptLine::PhaseEnd => Ok(phase + 1),
+        ScriptLine::Work(lane, act) => match add_job(jobs, number, Job { lane, phase, act }) {
             Ok(()) => Ok(phase),
             Err(fault) => Err(fault),
         },
@@ -82,12 +82,12 @@ fn add_line(
     requires to { phase + 1 < 2 ^ 32 }
     requires old { AreJobs jobs.old }
     requires within { AreWithin phase jobs.old }
-    ensures ok { IfOk result (λ next. with_line number phase jobs.old (line_of text.now) ≡ Ok jobs.new) }
-    ensures phase { IfOk result (λ next. next ≡ phase_after phase (line_of text.now)) }
+    ensures ok { IfOk result (λ next. with_line number phase jobs.old (script_line_of text.now) ≡ Ok jobs.new) }
+    ensures phase { IfOk result (λ next. next ≡ phase_after phase (script_line_of text.now)) }
     ensures after { IfOk result (λ next. (1 ≤ next) × (next ≤ phase + 1)) }
     ensures lawful { OnOk result (AreJobs jobs.new) }
     ensures within { IfOk result (λ next. AreWithin next jobs.new) }
-    ensures err { IfErr result (λ fault. IsFault (with_line number phase jobs.old (line_of text.now)) fault.line fault.cause) }
+    ensures err { IfErr result (λ fault. IsFault (with_line number phase jobs.old (script_line_of text.now)) fault.line fault.cause) }
 {
     match read_line(alloc, text) {
         Ok(line) => add(jobs, number, phase, line),

@@ -7,7 +7,7 @@ use Rattle.std.proofs.lemmas.List.Elements.{All-map}
 use Rattle.std.proofs.lemmas.Option.{slice_get-get_or}
 use Rattle.pk_values.specs.Fits.{fits, fits_all}
 use Rattle.pk_values.specs.Schemas.{Layout, fits_row, is_kind, schema_fault}
-use Rattle.pk_values.specs.SchemaFacts.{lawful_column}
+use Rattle.pk_values.specs.SchemaFacts.{lawful_column, length-fits_all}
 use Rattle.pk_values.specs.declared.cells.Value.{Value}
 use Rattle.pk_values.specs.declared.cells.Value.TheVariants.{Null}
 use Rattle.pk_values.specs.declared.cells.Column.{Column}
@@ -28,6 +28,12 @@ column_fits s rows fit i d lt =
 
 pub typed_at : (s : Layout) → schema_fault s.columns s.keys ≡ None → (i : ℕ) (d : Column) → i < length s.columns → IsTrue (is_kind (get_or s.columns i d).kind)
 typed_at s lawful i d lt = (lawful_column s i (get_or s.columns i d) lawful (slice_get-get_or s.columns i d lt)).typed
+
+-- a row of those that fit has a cell in each column
+pub have_column : (s : Layout) (column : ℕ) (rows : List (List Value)) → All (λ row. IsTrue (fits_row s row)) rows → column < length s.columns → All (λ row. column < length row) rows
+have_column s column rows fit there i d lt =
+    let long = length-fits_all s.columns (get_or rows i d) (fit i d lt) in
+    omega arith
 
 -- cells of a column that a table may have
 pub record FitsColumn (c : Column) (cells : List Value) : Type 0 where

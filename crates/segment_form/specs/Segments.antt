@@ -9,16 +9,13 @@ use Rattle.pk_values.specs.declared.cells.Value.{Value}
 use Rattle.pk_values.specs.declared.cells.Value.TheVariants.{Null}
 use Rattle.pk_values.specs.declared.cells.Column.{Column}
 use Rattle.column_page.specs.Page.{page_of}
+pub use Rattle.column_page.specs.Page.{column_cells}
 use Rattle.column_page.specs.Footers.{u32_bytes, mark_of, footer_bytes}
 use Rattle.column_page.specs.declared.footers.ColumnMark.{ColumnMark}
 use Rattle.column_page.specs.declared.footers.BlockMark.{BlockMark}
 use Rattle.column_page.specs.declared.footers.Footer.{Footer}
 
 -- ---- a block
-
--- the cells of the column in place i
-abbrev pub column_cells : ℕ → List (List Value) → List Value
-column_cells i rows = map (λ row. get_or row i Null) rows
 
 -- the length of a page and the page
 abbrev pub sized : List ℕ → List ℕ

@@ -1,12 +1,11 @@
 ghost use Rattle.std.specs.Prelude.{◌≡◌, ◌<◌, ◌≤◌, ◌^◌, ◌∷◌, [], ◌++◌, All, IsTrue, IfOk, OnOk, length};
 ghost use Rattle.pk_values.specs.Schemas.{fits_row, is_kind};
 ghost use Rattle.column_page.specs.Footers.{mark_of};
-ghost use Rattle.column_page.specs.Page.{page_of, AllFit};
+ghost use Rattle.column_page.specs.Page.{column_cells, page_of, AllFit};
 ghost use Rattle.segment_form.specs.Segments.{block_body, marks_of, sized};
 
-use column_page::{ColumnMark, encode_page, mark_of, put_u32};
-use pk_values::{Column, Items, Row, Schema, Value};
-use segment_form::cells_of;
+use column_page::{ColumnMark, column_mark, encode_column, put_u32};
+use pk_values::{Column, Items, Row, Schema};
 use std::alloc::{AllocError, Global};
 
 /// The pages of a block, each behind its length, and the marks of its columns.
@@ -30,18 +29,20 @@ fn put_column(
     alloc: Global,
     pages: &mut Pages,
     column: &Column,
-    cells: &[Value],
+    place: usize,
+    rows: &[Row],
 ) -> Result<(), AllocError>
     requires kind { IsTrue (is_kind column.now.kind) }
-    requires some { 1 ≤ length cells.now }
-    requires few { length cells.now ≤ 1024 }
-    requires fits { AllFit column.now cells.now }
-    ensures bytes { OnOk result (pages.new.bytes.items ≡ pages.old.bytes.items ++ sized (page_of column.now cells.now)) }
-    ensures marks { OnOk result (pages.new.marks ≡ pages.old.marks ++ mark_of cells.now ∷ []) }
+    requires some { 1 ≤ length rows.now }
+    requires few { length rows.now ≤ 1024 }
+    requires there { All (λ row. place < length row) rows.now }
+    requires fits { AllFit column.now (column_cells place rows.now) }
+    ensures bytes { OnOk result (pages.new.bytes.items ≡ pages.old.bytes.items ++ sized (page_of column.now (column_cells place rows.now))) }
+    ensures marks { OnOk result (pages.new.marks ≡ pages.old.marks ++ mark_of (column_cells place rows.now) ∷ []) }
 {
-    let page = encode_page(alloc, column, cells)?;
+    let page = encode_column(alloc, column, place, rows)?;
     put_sized(&mut pages.bytes, page.as_slice())?;
-    pages.marks.push(mark_of(cells))
+    pages.marks.push(column_mark(place, rows))
 }
 
 /// The pages of a block of 1 to 1,024 rows.
@@ -59,8 +60,7 @@ pub fn block_pages(alloc: Global, schema: &Schema, rows: &[Row]) -> Result<Pages
     };
     let columns = schema.columns();
     for (i, column) in columns.iter().enumerate() {
-        let cells = cells_of(alloc, schema, i as u32, rows)?;
-        put_column(alloc, &mut pages, column, &cells)?;
+        put_column(alloc, &mut pages, column, i, rows)?;
     }
     Ok(pages)
 }

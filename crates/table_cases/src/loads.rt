@@ -31,21 +31,26 @@ fn load_text(alloc: Global, load: &Load) -> Result<String, AllocError> {
     Ok(text)
 }
 
-fn read(alloc: Global, schema: &Schema, file: &[u8]) -> Result<String, AllocError> {
+fn read(alloc: Global, schema: &Schema, file: &[u8], partial: bool) -> Result<String, AllocError> {
     if file.len() > 67_108_864 {
         return "too long".to_string(alloc);
     }
-    match read_load(alloc, schema, file) {
+    match read_load(alloc, schema, file, partial) {
         Ok(load) => load_text(alloc, &load),
         Err(LoadFault::Memory) => Err(AllocError),
         Err(fault) => format!(in alloc; "{fault:?}"),
     }
 }
 
-/// `load BYTES`: the lines of a load file.
-pub fn load(alloc: Global, schemas: &Schemas, file: &[u8]) -> Result<String, AllocError> {
+/// `load BYTES` and `partial BYTES`: the lines of a load file, of all columns or partial.
+pub fn load(
+    alloc: Global,
+    schemas: &Schemas,
+    file: &[u8],
+    partial: bool,
+) -> Result<String, AllocError> {
     match &schemas.schema {
-        Some(schema) => read(alloc, schema, file),
+        Some(schema) => read(alloc, schema, file, partial),
         None => "no table".to_string(alloc),
     }
 }

@@ -62,7 +62,8 @@ impl Desk {
         match call {
             "table" => self.schemas.table(alloc, &bytes),
             "mend" => schemas::mend(alloc, &bytes),
-            "load" => loads::load(alloc, &self.schemas, &bytes),
+            "load" => loads::load(alloc, &self.schemas, &bytes, false),
+            "partial" => loads::load(alloc, &self.schemas, &bytes, true),
             "script" => scripts::script(alloc, &bytes),
             "t" | "s" | "a" => self.runs.file(alloc, call, bytes),
             _ => "no call".to_string(alloc),

@@ -1,17 +1,27 @@
 -- What was read for jobs, and why a run stops, from where it stopped.
-use Rattle.std.proofs.Common.{◌≡◌, refl, ap, sym, subst, ◌∙◌, ⊎_elim, ℕ, zero, suc, ◌+◌, ◌<◌, ◌≤◌, arith, add-one, List, [], ◌∷◌, ◌++◌, length, take, drop, get_or, Option, Some, None, cond, Bool as Truth, true, false, inl, inr, ◌==◌}
+use Rattle.std.proofs.Common.{◌≡◌, refl, ap, sym, subst, ◌∙◌, ⊎_elim, ℕ, zero, suc, ◌+◌, ◌<◌, ◌≤◌, arith, add-one, List, [], ◌∷◌, ◌++◌, length, take, drop, get_or, Option, Some, None, inl, inr}
+use Rattle.std.specs.Prelude.{All, AllPairs, map}
 use Rattle.std.specs.List.{AllByRecursion}
-use Rattle.std.proofs.lemmas.Bool.{and_parts}
+use Rattle.std.proofs.lemmas.List.{length-map, map-append}
 use Rattle.dev_traits.specs.Streams.{Files}
 use Rattle.pk_values.specs.Schemas.{Layout}
+use Rattle.pk_model.specs.Books.{new_book}
+use Rattle.script_text.specs.Answers.{Follows}
 use Rattle.script_text.specs.declared.scripts.Job.{Job}
-use Rattle.script_text.specs.declared.scripts.JobAct.{JobAct}
-use Rattle.script_text.specs.declared.scripts.JobAct.TheVariants as act
-use Rattle.script_text.specs.declared.tasks.Task.{Task}
-use Rattle.script_text.specs.declared.tasks.Task.TheVariants as task
-use Rattle.tablet_run.specs.Courses.{HasFewBytes}
-use Rattle.tablet_run.specs.Runs.{AreTasks, Asks, HasJobs, HasTexts, IsTask, JobsStop, LoadsNext, PlanStops, Stops, StopsAt, TaskStops, bytes_in, first_unbuilt, is_built, is_built_act, limit_after, most_after, most_loads, task_bytes}
-use Rattle.tablet_run.specs.Streams.{Lacks, Exceeds}
+use Rattle.reports.specs.declared.jobs.FiledJob.{FiledJob}
+use Rattle.reports.specs.declared.endings.Ending.{Ending}
+use Rattle.reports.specs.declared.endings.Ending.TheVariants as ending
+use Rattle.reports.specs.Filed.{AreFiled, AreHeld, HasItsFile, bytes_in, file_name, most_files}
+use Rattle.reports.specs.Plain.{HasFewBytes, PhasesRise}
+use Rattle.reports.specs.Texts.{HasTexts, HaveTexts}
+use Rattle.pk_values.specs.Order.{key_cmp}
+use Rattle.pk_values.specs.declared.cells.Value.{Value}
+use Rattle.std.specs.FinMap as fin
+use Rattle.tablet_run.specs.Asks.{Asks, FileIsNext, HasFiled, HasJobs, NamesTexts, first_unbuilt, most_after, limit_after}
+use Rattle.tablet_run.specs.Runs.{Ends, InputCause, IsReport, Reported, Setting, SinkCause, Stops, Tells}
+use Rattle.tablet_run.specs.Statuses.{cause_of}
+use Rattle.tablet_run.specs.Steps.{FileStops, JobsStop, PlanStops, PutAs, StopsAt}
+use Rattle.tablet_run.specs.Streams.{Lacks, Exceeds, HeldAfter}
 use Rattle.tablet_run.specs.declared.causes.Cause.{Cause}
 use Rattle.tablet_run.specs.declared.causes.Cause.TheVariants as cause
 
@@ -32,9 +42,12 @@ stops-at files words name most limit (cause.Table f) asks h = absurd h
 stops-at files words name most limit (cause.Script f) asks h = absurd h
 stops-at files words name most limit (cause.Unbuilt n) asks h = absurd h
 stops-at files words name most limit cause.Sink asks h = absurd h
+stops-at files words name most limit cause.OtherSchema asks h = absurd h
+stops-at files words name most limit cause.Store asks h = absurd h
+stops-at files words name most limit (cause.Damaged d) asks h = absurd h
 
 pub plan-stops : (files : Option Files) (words : List (List ℕ)) (table script : List ℕ) (c : Cause)
-    → HasTexts files words table script → PlanStops table script c → Stops files words c
+    → NamesTexts files words table script → PlanStops table script c → Stops files words c
 plan-stops files words table script (cause.Table f) t h = (table, script, t, h)
 plan-stops files words table script (cause.Script f) t h = (h.0, table, script, t, h.1, h.2)
 plan-stops files words table script (cause.Unbuilt n) t h =
@@ -47,6 +60,9 @@ plan-stops files words table script cause.None t h = cc
 plan-stops files words table script cause.Refused t h = cc
 plan-stops files words table script cause.Words t h = cc
 plan-stops files words table script cause.Sink t h = cc
+plan-stops files words table script cause.OtherSchema t h = cc
+plan-stops files words table script cause.Store t h = cc
+plan-stops files words table script (cause.Damaged d) t h = cc
 
 pub jobs-stop : (files : Option Files) (words : List (List ℕ)) (s : Layout) (jobs : List Job) (c : Cause)
     → HasJobs files words s jobs → first_unbuilt 1 jobs ≡ None → JobsStop files jobs c → Stops files words c
@@ -55,54 +71,60 @@ jobs-stop files words s jobs c has built h = ⊎_elim
     (λ p. stops-at files words p.0 (most_after p.1) (limit_after p.1) c (inr (inr (p.1, (s, jobs, has, built, p.2), refl, refl))) p.3)
     h
 
--- ---- the tasks of jobs
+-- ---- jobs beside their files
 
-pub tasks-push : (files : Option Files) (js : List Job) (ts : List Task) (j : Job) (t : Task) → AreTasks files js ts → IsTask files j.act t → AreTasks files (js ++ j ∷ []) (ts ++ t ∷ [])
-tasks-push files [] [] j t h k = (k, tt)
-tasks-push files [] (u ∷ ts) j t h k = absurd h
-tasks-push files (i ∷ js) [] j t h k = absurd h
-tasks-push files (i ∷ js) (u ∷ ts) j t h k = (h.0, tasks-push files js ts j t h.1 k)
+pub filed-none : (files : Option Files) → AreFiled files [] []
+filed-none files = record { jobs_are = refl; held = tt; few = omega arith }
 
-pub bytes-push : (ts : List Task) (t : Task) → bytes_in (ts ++ t ∷ []) ≡ bytes_in ts + task_bytes t
-bytes-push [] t = omega arith
-bytes-push (u ∷ ts) t = let e = bytes-push ts t in omega (arith, e)
+bytes-push : (fs : List FiledJob) (f : FiledJob) → bytes_in (fs ++ f ∷ []) ≡ bytes_in fs + length f.file
+bytes-push [] f = omega arith
+bytes-push (g ∷ fs) f = let e = bytes-push fs f in omega (arith, e)
 
-pub same-count : (files : Option Files) (js : List Job) (ts : List Task) → AreTasks files js ts → length ts ≡ length js
-same-count files [] [] h = refl
-same-count files [] (u ∷ ts) h = absurd h
-same-count files (i ∷ js) [] h = absurd h
-same-count files (i ∷ js) (u ∷ ts) h = ap suc (same-count files js ts h.1)
+jobs-push : (js : List Job) (fs : List FiledJob) (f : FiledJob) → map (λ (x : FiledJob). x.job) fs ≡ js → map (λ (x : FiledJob). x.job) (fs ++ f ∷ []) ≡ js ++ f.job ∷ []
+jobs-push js fs f e = map-append (λ (x : FiledJob). x.job) fs (f ∷ []) ∙ ap (λ xs. xs ++ f.job ∷ []) e
 
-few-of : (files : Option Files) (a : JobAct) (t : Task) → IsTask files a t → HasFewBytes t
-few-of files (act.Load name) (task.Load bytes) h = h.0
-few-of files (act.Load name) (task.Scan want) h = absurd h
-few-of files (act.Load name) task.Stat h = absurd h
-few-of files (act.Scan want) (task.Scan asked) h = tt
-few-of files (act.Scan want) (task.Load bytes) h = absurd h
-few-of files (act.Scan want) task.Stat h = absurd h
-few-of files act.Stat task.Stat h = tt
-few-of files act.Stat (task.Load bytes) h = absurd h
-few-of files act.Stat (task.Scan want) h = absurd h
-few-of files (act.Partial name) t h = absurd h
-few-of files act.Compact t h = absurd h
-few-of files (act.Expire v) t h = absurd h
+held-push : (files : Option Files) (fs : List FiledJob) (f : FiledJob) → AllByRecursion (HasItsFile files) fs → HasItsFile files f → AllByRecursion (HasItsFile files) (fs ++ f ∷ [])
+held-push files [] f h k = (k, tt)
+held-push files (g ∷ fs) f h k = (h.0, held-push files fs f h.1 k)
 
-pub few-tasks : (files : Option Files) (js : List Job) (ts : List Task) → AreTasks files js ts → AllByRecursion HasFewBytes ts
-few-tasks files [] [] h = tt
-few-tasks files [] (u ∷ ts) h = absurd h
-few-tasks files (i ∷ js) [] h = absurd h
-few-tasks files (i ∷ js) (u ∷ ts) h = (few-of files i.act u h.0, few-tasks files js ts h.1)
+-- one job more, beside its file
+pub filed-push : (files : Option Files) (js : List Job) (fs : List FiledJob) (j : Job) (file : List ℕ) → AreFiled files js fs → AreHeld files (file_name j.act) file → bytes_in fs + length file ≤ most_files
+    → AreFiled files (js ++ j ∷ []) (fs ++ (record { job = j; file = file }) ∷ [])
+filed-push files js fs j file h held few =
+    let f : FiledJob = record { job = j; file = file } in
+    let sum = bytes-push fs f in
+    record { jobs_are = jobs-push js fs f h.jobs_are; held = held-push files fs f h.held held; few = omega (arith, sum, few) }
 
--- each job is built where none is the first that is not
-built-each : (n : ℕ) (jobs : List Job) (i : ℕ) (d : Job) → first_unbuilt n jobs ≡ None → i < length jobs → is_built (get_or jobs i d) ≡ true
-built-each n [] i d e lt = absurd (omega arith)
-built-each n (j ∷ jobs) i d e lt = by (is_built j) refl e i lt (λ k f l. built-each (n + 1) jobs k d f l)
-  where
-    by : (b : Truth) → is_built j ≡ b → cond b (first_unbuilt (n + 1) jobs) (Some n) ≡ None → (i : ℕ) → i < length (j ∷ jobs)
-        → ((k : ℕ) → first_unbuilt (n + 1) jobs ≡ None → k < length jobs → is_built (get_or jobs k d) ≡ true) → is_built (get_or (j ∷ jobs) i d) ≡ true
-    by false u e i lt rest = cc
-    by true u e zero lt rest = u
-    by true u e (suc i) lt rest = rest i e (omega arith)
+pub bytes-more : (fs : List FiledJob) (f : FiledJob) → bytes_in (fs ++ f ∷ []) ≡ bytes_in fs + length f.file
+bytes-more = bytes-push
+
+pub same-count : (files : Option Files) (js : List Job) (fs : List FiledJob) → AreFiled files js fs → length fs ≡ length js
+same-count files js fs h = sym (length-map fs (λ (x : FiledJob). x.job)) ∙ ap length h.jobs_are
+
+few-held : (files : Option Files) (name : Option (List ℕ)) (bytes : List ℕ) → AreHeld files name bytes → length bytes ≤ 67108864
+few-held files None bytes h = let none = ap length h in omega (arith, none)
+few-held files (Some name) bytes h = h.0
+
+pub few-filed : (files : Option Files) (fs : List FiledJob) → AllByRecursion (HasItsFile files) fs → AllByRecursion HasFewBytes fs
+few-filed files [] h = tt
+few-filed files (f ∷ fs) h = (few-held files (file_name f.job.act) f.file h.0, few-filed files fs h.1)
+
+-- phases that rise in a script rise among its jobs beside their files
+below-all : (j : FiledJob) (fs : List FiledJob) (js : List Job) → map (λ (x : FiledJob). x.job) fs ≡ js → All (Follows j.job) js → AllByRecursion (λ (i : FiledJob). j.job.phase ≤ i.job.phase) fs
+below-all j [] js e h = tt
+below-all j (f ∷ fs) [] e h = cc e
+below-all j (f ∷ fs) (k ∷ js) e h =
+    let first : f.job ≡ k = cc e in
+    let rest : map (λ (x : FiledJob). x.job) fs ≡ js = cc e in
+    (subst (λ (x : Job). j.job.phase ≤ x.phase) (sym first) (h 0 k (omega arith)), below-all j fs js rest (λ n d lt. h (suc n) d (omega arith)))
+
+pub phases-rise : (fs : List FiledJob) (js : List Job) → map (λ (x : FiledJob). x.job) fs ≡ js → AllPairs Follows js → PhasesRise fs
+phases-rise [] js e h = tt
+phases-rise (f ∷ fs) [] e h = cc e
+phases-rise (f ∷ fs) (k ∷ js) e h =
+    let first : f.job ≡ k = cc e in
+    let rest : map (λ (x : FiledJob). x.job) fs ≡ js = cc e in
+    (below-all f fs js rest (subst (λ (x : Job). All (Follows x) js) (sym first) (λ n d lt. h 0 (suc n) d (omega arith) (omega arith))), phases-rise fs js rest (λ m n d lt ln. h (suc m) (suc n) d (omega arith) (omega arith)))
 
 pub take-next : {X : Type 0} (xs : List X) (i : ℕ) (d : X) → i < length xs → take (i + 1) xs ≡ take i xs ++ get_or xs i d ∷ []
 take-next {X = X} xs i d lt = rw (add-one) (by xs i lt)
@@ -118,30 +140,103 @@ split-at (x ∷ xs) zero d lt = refl
 split-at (x ∷ xs) (suc i) d lt = ap (λ ys. x ∷ ys) (split-at xs i d (omega arith))
 
 -- the file of the job in place i is the next one
-pub next-stops : (files : Option Files) (jobs : List Job) (i : ℕ) (j : Job) (ts : List Task) (read : ℕ) (c : Cause)
-    → i < length jobs → j ≡ get_or jobs i j → AreTasks files (take i jobs) ts → read ≡ bytes_in ts → read ≤ most_loads → TaskStops files j.act read c → JobsStop files jobs c
-next-stops files jobs i j ts read c lt is are sum few h = by j.act refl h
+pub next-stops : (files : Option Files) (jobs : List Job) (i : ℕ) (j : Job) (fs : List FiledJob) (read : ℕ) (c : Cause)
+    → i < length jobs → j ≡ get_or jobs i j → AreFiled files (take i jobs) fs → read ≡ bytes_in fs → FileStops files (file_name j.act) read c → JobsStop files jobs c
+next-stops files jobs i j fs read c lt is are sum h = by (file_name j.act) refl h
   where
-    found : (name : List ℕ) → j.act ≡ act.Load name → LoadsNext files jobs name read
+    found : (name : List ℕ) → file_name j.act ≡ Some name → FileIsNext files jobs name read
     found name e = record {
       earlier = take i jobs;
       job = j;
       later = drop (suc i) jobs;
       jobs_are = split-at jobs i j lt ∙ ap (λ x. take i jobs ++ x ∷ drop (suc i) jobs) (sym is);
-      tasks = ts;
+      filed = fs;
       are = are;
       before_is = sum;
-      within = few;
-      loads = e;
+      names = e;
     }
 
-    by : (a : JobAct) → j.act ≡ a → TaskStops files a read c → JobsStop files jobs c
-    by (act.Load name) e k = inr (name, read, found name e, k)
-    by (act.Partial name) e k = inl k
-    by (act.Scan want) e k = inl k
-    by act.Compact e k = inl k
-    by (act.Expire v) e k = inl k
-    by act.Stat e k = inl k
+    by : (o : Option (List ℕ)) → file_name j.act ≡ o → FileStops files o read c → JobsStop files jobs c
+    by None e k = inl k
+    by (Some name) e k = inr (name, read, found name e, k)
 
-pub built-at : (jobs : List Job) (i : ℕ) (d : Job) → first_unbuilt 1 jobs ≡ None → i < length jobs → is_built_act (get_or jobs i d).act ≡ true
-built-at jobs i d e lt = (and_parts ((get_or jobs i d).lane == 1) (is_built_act (get_or jobs i d).act) (built-each 1 jobs i d e lt)).1
+-- ---- the end of a run
+
+pub inputs-quiet : (count : ℕ) (e : Ending) → InputCause count count (cause_of e)
+inputs-quiet count ending.Well = refl
+inputs-quiet count ending.Refused = refl
+inputs-quiet count ending.Memory = refl
+inputs-quiet count ending.Store = refl
+inputs-quiet count (ending.Damaged d) = refl
+
+pub sink-quiet : (before now : ℕ) (e : Ending) → now ≡ before → SinkCause before now (cause_of e)
+sink-quiet before now ending.Well h = h
+sink-quiet before now ending.Refused h = h
+sink-quiet before now ending.Memory h = h
+sink-quiet before now ending.Store h = h
+sink-quiet before now (ending.Damaged d) h = h
+
+pub put-as : (before now : Option (List ℕ)) (text : List ℕ) (e : Ending) → HeldAfter before now text → PutAs before now text e (cause_of e)
+put-as before now text ending.Well h = (h, refl)
+put-as before now text ending.Refused h = (h, refl)
+put-as before now text ending.Memory h = (h, refl)
+put-as before now text ending.Store h = (h, refl)
+put-as before now text (ending.Damaged d) h = (h, refl)
+
+reported-ends : (r : Setting) (e : Ending) → Reported r e → Ends r (cause_of e)
+reported-ends r ending.Well h = h
+reported-ends r ending.Refused h = h
+reported-ends r ending.Memory h = inr h
+reported-ends r ending.Store h = h
+reported-ends r (ending.Damaged d) h = h
+
+-- a report that was put ends the run
+pub put-ends : (r : Setting) (s : Layout) (jobs : List FiledJob) (text : List ℕ) (e : Ending) (c : Cause) → HasFiled r.files r.words s jobs → IsReport s r.book jobs text e
+    → PutAs r.before r.now text e c → Ends r c
+put-ends r s jobs text e c asked reports put = by c put
+  where
+    tells : Tells r text e
+    tells = record { s = s; jobs = jobs; asked = asked; reports = reports }
+
+    told : (d : Cause) → HeldAfter r.before r.now text × (d ≡ cause_of e) → Ends r d
+    told d h = subst (Ends r) (sym h.1) (reported-ends r e (text, tells, h.0))
+
+    by : (d : Cause) → PutAs r.before r.now text e d → Ends r d
+    by cause.Sink h = (text, e, tells, h)
+    by cause.None h = told cause.None h
+    by cause.Refused h = told cause.Refused h
+    by cause.Memory h = told cause.Memory h
+    by cause.Store h = told cause.Store h
+    by (cause.Damaged d) h = told (cause.Damaged d) h
+    by cause.OtherSchema h = told cause.OtherSchema h
+    by cause.Words h = told cause.Words h
+    by (cause.Table f) h = told (cause.Table f) h
+    by (cause.Script f) h = told (cause.Script f) h
+    by (cause.Unbuilt n) h = told (cause.Unbuilt n) h
+    by (cause.Missing n) h = told (cause.Missing n) h
+    by (cause.InputFault n) h = told (cause.InputFault n) h
+    by (cause.TooLarge n m) h = told (cause.TooLarge n m) h
+
+-- a run that stops before its jobs puts nothing
+pub stop-ends : (r : Setting) (c : Cause) → Stops r.files r.words c → r.now ≡ r.before → Ends r c
+stop-ends r cause.Memory h e = inl e
+stop-ends r cause.Sink h e = absurd h
+stop-ends r cause.None h e = absurd h
+stop-ends r cause.Refused h e = absurd h
+stop-ends r cause.Store h e = absurd h
+stop-ends r (cause.Damaged d) h e = absurd h
+stop-ends r cause.OtherSchema h e = absurd h
+stop-ends r cause.Words h e = (h, e)
+stop-ends r (cause.Table f) h e = (h, e)
+stop-ends r (cause.Script f) h e = (h, e)
+stop-ends r (cause.Unbuilt n) h e = (h, e)
+stop-ends r (cause.Missing n) h e = (h, e)
+stop-ends r (cause.InputFault n) h e = (h, e)
+stop-ends r (cause.TooLarge n m) h e = (h, e)
+
+-- a new book has no row, so no cell without a text
+empty-texts : HasTexts (fin.empty {R = key_cmp})
+empty-texts key row e = let none = fin.get-empty {X = List Value} key_cmp key in cc
+
+pub new-texts : HaveTexts new_book
+new-texts = (empty-texts, tt)

@@ -1,6 +1,9 @@
 ghost use Rattle.std.specs.Prelude.{◌≡◌};
+ghost use Rattle.tablet_run.specs.Statuses.{cause_of, cause_status};
 
+use dev_traits::Damaged;
 use pk_values::Octets;
+use reports::Ending;
 use schema_json::TableFault;
 use script_text::ScriptFault;
 use thiserror::Error;
@@ -52,6 +55,15 @@ pub enum Cause {
     /// The job of this number, counted from 1, is not built yet: it is no `load`, `scan` or `stat`, or not in lane 1.
     #[error("job {0} is of a kind that is not built yet: `load`, `scan` and `stat` are, in lane 1")]
     Unbuilt(u64),
+    /// The store's table is not the one that the words name.
+    #[error("the store holds another table than the one of the table's file")]
+    OtherSchema,
+    /// The store failed under a job, or was closed by such a fault.
+    #[error("the store failed, as the report tells")]
+    Store,
+    /// A job met this damage in the store.
+    #[error("the store is damaged, as the report tells")]
+    Damaged(Damaged),
     /// A put failed.
     #[error("the report could not be written")]
     Sink,
@@ -64,8 +76,6 @@ pub enum Cause {
 }
 
 impl Cause {
-    ghost use Rattle.tablet_run.specs.Statuses.{cause_status};
-
     /// The status of a cause.
     pub fn status(&self) -> u8
         ensures { result ≡ cause_status self.now }
@@ -73,19 +83,36 @@ impl Cause {
         match self {
             Cause::None => 0,
             Cause::Refused => 1,
-            Cause::Words | Cause::Table(_) | Cause::Script(_) | Cause::Unbuilt(_) => 2,
+            Cause::Words | Cause::Table(_) | Cause::Script(_) => 2,
+            Cause::Unbuilt(_) | Cause::OtherSchema => 2,
             Cause::Missing(_) | Cause::InputFault(_) | Cause::TooLarge { .. } => 3,
+            Cause::Store => 4,
+            Cause::Damaged(_) => 5,
             Cause::Sink => 6,
             Cause::Memory => 7,
         }
     }
 }
 
+/// The cause of a run whose jobs ended so.
+pub fn cause_of(ending: Ending) -> Cause
+    ensures { result ≡ cause_of ending }
+{
+    match ending {
+        Ending::Well => Cause::None,
+        Ending::Refused => Cause::Refused,
+        Ending::Memory => Cause::Memory,
+        Ending::Store => Cause::Store,
+        Ending::Damaged(damaged) => Cause::Damaged(damaged),
+    }
+}
+
 /// How a run ended.
 #[derive(Drop)]
 pub struct Ended {
-    /// The exit status that the cause has: 0 where each job was done, 1 where one was refused, 2 for words, a table or a script that are not of their form or
-    /// not built yet, 3 for an input, 6 for the sink, 7 for memory.
+    /// The exit status that the cause has: 0 where each job was done, 1 where one was refused, 2 for words, a table or a script that are not of
+    /// their form or not built yet and for a store of another table, 3 for an input, 4 for a fault of the store, 5 for damage, 6 for the sink,
+    /// 7 for memory.
     pub status: u8,
     /// Why it ended so.
     pub cause: Cause,

@@ -1,31 +1,35 @@
-ghost use Rattle.std.specs.Prelude.{◌≡◌, ◌<◌, ◌≤◌, ◌^◌, ◌+◌, ◌++◌, ◌∷◌, [], ℕ, Option, Ok, None, true, length, IfOk, IfErr, OnOk};
+ghost use Rattle.std.specs.Prelude.{◌≡◌, ◌<◌, ◌≤◌, ◌^◌, ◌+◌, ◌++◌, ◌∷◌, [], ℕ, Option, Ok, None, length, option_map, IfOk, IfErr, OnOk};
+ghost use Rattle.std.specs.List.{AllByRecursion};
+ghost use Rattle.command_line.specs.Words.{texts};
+ghost use Rattle.dev_traits.specs.Streams.{Files};
+ghost use Rattle.reports.specs.Filed.{AreFiled, AreHeld, bytes_in, file_name, most_files};
+ghost use Rattle.reports.specs.Plain.{HasFewBytes, PhasesRise};
 ghost use Rattle.schema_json.specs.Tables.{table_of};
 ghost use Rattle.script_text.specs.Scripts.{script_of};
 ghost use Rattle.script_text.specs.Answers.{AreJobs, IsScript};
-ghost use Rattle.command_line.specs.Words.{texts};
-ghost use Rattle.std.specs.List.{AllByRecursion};
-ghost use Rattle.tablet_run.specs.Courses.{HasFewBytes};
-ghost use Rattle.tablet_run.specs.Runs.{AreTasks, HasTasks, HasTexts, InputCause, IsTask, JobsStop, PlanStops, ScriptStops, StepCause, Stops, StopsAt, TableStops, TaskStops, bytes_in, first_unbuilt, is_built, is_built_act, limit_after, most_after, most_loads, task_bytes};
+ghost use Rattle.tablet_run.specs.Asks.{HasFiled, NamesTexts, first_unbuilt, is_built, is_built_act, limit_after, most_after};
+ghost use Rattle.tablet_run.specs.Runs.{InputCause, Stops};
+ghost use Rattle.tablet_run.specs.Steps.{FileStops, JobsStop, PlanStops, ScriptStops, StepCause, StopsAt, TableStops};
 ghost use Rattle.tablet_run.specs.Streams.{Holds, StopCause, StopsInput};
-ghost use Rattle.dev_traits.specs.Streams.{Files};
 
 use crate::causes::Cause;
 use crate::streams::{InputStop, read_input};
 use command_line::{WordsFault, read_words};
 use dev_traits::Inputs;
 use pk_values::{Items, Octets, Schema};
+use reports::FiledJob;
 use schema_json::{TableFault, read_table};
-use script_text::{Job, JobAct, Script, ScriptCause, Task, read_script};
-use std::alloc::Global;
+use script_text::{Job, JobAct, Script, ScriptCause, read_script};
+use std::alloc::{AllocError, Global};
 
 // The most bytes of a table, and of a script.
 const MOST_TEXT: usize = 1_048_576;
 
 // The most bytes of a load file.
-const MOST_LOAD: usize = 67_108_864;
+const MOST_FILE: usize = 67_108_864;
 
 // The most bytes of all load files of a script.
-const MOST_LOADS: usize = 268_435_456;
+const MOST_FILES: usize = 268_435_456;
 
 // Why the input of a name was not read, where it passes this limit past the bytes that it may hold.
 fn stopped(name: Octets, limit: u64, stop: InputStop) -> Cause
@@ -82,7 +86,7 @@ fn find_texts<'a, I: Inputs>(
     inputs: &mut I,
 ) -> Result<Texts, Cause>
     ensures same { I.files inputs.new ≡ I.files inputs.old }
-    ensures read { IfOk result (λ read. HasTexts (I.files inputs.old) (texts words.entry.now) read.table.items read.script.items) }
+    ensures read { IfOk result (λ read. NamesTexts (I.files inputs.old) (texts words.entry.now) read.table.items read.script.items) }
     ensures stopped { IfErr result (Stops (I.files inputs.old) (texts words.entry.now)) }
     ensures cause { StepCause (I.faults inputs.old) (I.faults inputs.new) result }
 {
@@ -158,13 +162,13 @@ fn first_unbuilt(jobs: &[Job]) -> Option<u64>
 
 // A table and the jobs of a script.
 #[derive(Drop)]
-struct Plan {
+struct TableAndJobs {
     schema: Schema,
     jobs: Items<Job>,
 }
 
 // The table and the jobs that texts say.
-fn plan_from(alloc: Global, texts: &Texts) -> Result<Plan, Cause>
+fn plan_from(alloc: Global, texts: &Texts) -> Result<TableAndJobs, Cause>
     requires { length texts.now.script.items < 2 ^ 31 }
     ensures table { IfOk result (λ plan. table_of texts.now.table.items ≡ Ok plan.schema) }
     ensures script { IfOk result (λ plan. script_of texts.now.script.items ≡ Ok (record { jobs = plan.jobs })) }
@@ -182,29 +186,29 @@ fn plan_from(alloc: Global, texts: &Texts) -> Result<Plan, Cause>
     };
     match first_unbuilt(script.jobs.as_slice()) {
         Some(number) => Err(Cause::Unbuilt(number)),
-        None => Ok(Plan {
+        None => Ok(TableAndJobs {
             schema,
             jobs: script.jobs,
         }),
     }
 }
 
-// Reads the file of a load, after files of so many bytes.
-fn read_load_file<I: Inputs>(
+// Reads the file of a name, after files of so many bytes.
+fn read_named<I: Inputs>(
     alloc: Global,
     inputs: &mut I,
     name: &str,
     read: usize,
 ) -> Result<Octets, Cause>
-    requires { read ≤ most_loads }
+    requires { read ≤ most_files }
     ensures same { I.files inputs.new ≡ I.files inputs.old }
     ensures read { IfOk result (λ bytes. Holds (I.files inputs.old) name.now (most_after read) bytes) }
     ensures stopped { IfErr result (StopsAt (I.files inputs.old) name.now (most_after read) (limit_after read)) }
     ensures cause { StepCause (I.faults inputs.old) (I.faults inputs.new) result }
 {
-    let left = MOST_LOADS - read;
-    let (most, limit) = if MOST_LOAD <= left {
-        (MOST_LOAD, 67_108_864)
+    let left = MOST_FILES - read;
+    let (most, limit) = if MOST_FILE <= left {
+        (MOST_FILE, 67_108_864)
     } else {
         (left, 268_435_456)
     };
@@ -215,92 +219,111 @@ fn read_load_file<I: Inputs>(
     }
 }
 
+// The name of a job's file, if it has one.
+fn file_name(act: &JobAct) -> Option<&[u8]>
+    ensures { option_map (λ name. name.now) result ≡ file_name act.now }
+{
+    match act {
+        JobAct::Load(name) => Some(name.as_slice()),
+        JobAct::Partial(name) => Some(name.as_slice()),
+        JobAct::Scan(_) | JobAct::Compact | JobAct::Expire(_) | JobAct::Stat => None,
+    }
+}
+
 // Reads the file of a job, if it has one, after files of so many bytes.
-fn read_task<I: Inputs>(
+fn read_file<I: Inputs>(
     alloc: Global,
     inputs: &mut I,
     act: &JobAct,
     read: usize,
-) -> Result<Task, Cause>
-    requires built { is_built_act act.now ≡ true }
-    requires few { read ≤ most_loads }
+) -> Result<Octets, Cause>
+    requires { read ≤ most_files }
     ensures same { I.files inputs.new ≡ I.files inputs.old }
-    ensures task { IfOk result (λ task. IsTask (I.files inputs.old) act.now task) }
-    ensures within { IfOk result (λ task. read + task_bytes task ≤ most_loads) }
-    ensures stopped { IfErr result (TaskStops (I.files inputs.old) act.now read) }
+    ensures held { IfOk result (AreHeld (I.files inputs.old) (file_name act.now)) }
+    ensures within { IfOk result (λ bytes. read + length bytes ≤ most_files) }
+    ensures stopped { IfErr result (FileStops (I.files inputs.old) (file_name act.now) read) }
     ensures cause { StepCause (I.faults inputs.old) (I.faults inputs.new) result }
 {
-    match act {
-        JobAct::Load(name) => match std::str::from_utf8(name.as_slice()) {
-            Ok(name) => Ok(Task::Load(read_load_file(alloc, inputs, name, read)?)),
+    match file_name(act) {
+        Some(name) => match std::str::from_utf8(name) {
+            Ok(name) => read_named(alloc, inputs, name, read),
             Err(_) => Err(Cause::Memory),
         },
-        JobAct::Scan(want) => Ok(Task::Scan(*want)),
-        JobAct::Stat => Ok(Task::Stat),
-        JobAct::Partial(_) | JobAct::Compact | JobAct::Expire(_) => Err(Cause::Memory),
+        None => Ok(Octets::from_vec(Vec::new(alloc))),
     }
 }
 
-// How many bytes the file of a job has.
-fn task_bytes(task: &Task) -> usize
-    ensures { result ≡ task_bytes task.now }
+// What a job does, once more.
+fn copy_act(alloc: Global, act: &JobAct) -> Result<JobAct, AllocError>
+    ensures { IfOk result (λ copy. copy ≡ act.now) }
 {
-    match task {
-        Task::Load(bytes) => bytes.as_slice().len(),
-        Task::Scan(_) | Task::Stat => 0,
+    match act {
+        JobAct::Load(name) => Ok(JobAct::Load(Octets::from_slice(alloc, name.as_slice())?)),
+        JobAct::Partial(name) => Ok(JobAct::Partial(Octets::from_slice(alloc, name.as_slice())?)),
+        JobAct::Scan(want) => Ok(JobAct::Scan(*want)),
+        JobAct::Compact => Ok(JobAct::Compact),
+        JobAct::Expire(version) => Ok(JobAct::Expire(*version)),
+        JobAct::Stat => Ok(JobAct::Stat),
     }
 }
 
-// Puts a task behind the others.
-fn push(tasks: &mut Vec<Task>, task: Task) -> Result<(), Cause>
-    ensures pushed { OnOk result (tasks.new.items ≡ tasks.old.items ++ task ∷ []) }
-    ensures stopped { IfErr result (λ cause. cause ≡ Cause.Memory) }
+// Puts a job beside its file behind the others.
+fn push(alloc: Global, filed: &mut Vec<FiledJob>, job: &Job, file: Octets) -> Result<(), AllocError>
+    ensures { OnOk result (filed.new.items ≡ filed.old.items ++ (record { job = job.now; file = file }) ∷ []) }
 {
-    match tasks.push(task) {
-        Ok(()) => Ok(()),
-        Err(_) => Err(Cause::Memory),
-    }
+    let job = Job {
+        lane: job.lane,
+        phase: job.phase,
+        act: copy_act(alloc, &job.act)?,
+    };
+    filed.push(FiledJob { job, file })?;
+    Ok(())
 }
 
 // Reads the file of each job that has one, in the order of the jobs.
-fn read_tasks<I: Inputs>(alloc: Global, inputs: &mut I, jobs: &[Job]) -> Result<Vec<Task>, Cause>
-    requires built { first_unbuilt 1 jobs.now ≡ None }
+fn read_files<I: Inputs>(
+    alloc: Global,
+    inputs: &mut I,
+    jobs: &[Job],
+) -> Result<Vec<FiledJob>, Cause>
     ensures same { I.files inputs.new ≡ I.files inputs.old }
-    ensures tasks { IfOk result (λ tasks. AreTasks (I.files inputs.old) jobs.now tasks.items) }
-    ensures within { IfOk result (λ tasks. bytes_in tasks.items ≤ most_loads) }
+    ensures filed { IfOk result (λ filed. AreFiled (I.files inputs.old) jobs.now filed.items) }
     ensures stopped { IfErr result (JobsStop (I.files inputs.old) jobs.now) }
     ensures cause { StepCause (I.faults inputs.old) (I.faults inputs.new) result }
 {
-    let mut tasks = Vec::new(alloc);
+    let mut filed = Vec::new(alloc);
     let mut read = 0;
     for i in 0..jobs.len() {
-        let task = match read_task(alloc, inputs, &jobs[i].act, read) {
-            Ok(task) => task,
+        let file = match read_file(alloc, inputs, &jobs[i].act, read) {
+            Ok(file) => file,
             Err(cause) => return Err(cause),
         };
-        read += task_bytes(&task);
-        push(&mut tasks, task)?;
+        read += file.as_slice().len();
+        let Ok(()) = push(alloc, &mut filed, &jobs[i], file) else {
+            return Err(Cause::Memory);
+        };
     }
-    Ok(tasks)
+    Ok(filed)
 }
 
-/// A table, and the jobs that are asked of it, with their files.
+/// A table, and the jobs that are asked of it, beside their files.
 #[derive(Drop)]
 pub struct Asked {
     pub schema: Schema,
-    pub tasks: Vec<Task>,
+    pub jobs: Vec<FiledJob>,
 }
 
-/// Reads what the words name: the table, the script, and the file of each load.
-pub fn find_tasks<'a, I: Inputs>(
+/// Reads what the words name: the table, the script, and the file of each job that has one.
+pub fn find_jobs<'a, I: Inputs>(
     alloc: Global,
     words: &'a [&'a str],
     inputs: &mut I,
 ) -> Result<Asked, Cause>
     ensures same { I.files inputs.new ≡ I.files inputs.old }
-    ensures asked { IfOk result (λ asked. HasTasks (I.files inputs.old) (texts words.entry.now) asked.schema asked.tasks.items) }
-    ensures few { IfOk result (λ asked. length asked.tasks.items ≤ 4096) }
-    ensures within { IfOk result (λ asked. AllByRecursion HasFewBytes asked.tasks.items) }
+    ensures asked { IfOk result (λ asked. HasFiled (I.files inputs.old) (texts words.entry.now) asked.schema asked.jobs.items) }
+    ensures few { IfOk result (λ asked. length asked.jobs.items ≤ 4096) }
+    ensures within { IfOk result (λ asked. AllByRecursion HasFewBytes asked.jobs.items) }
+    ensures phases { IfOk result (λ asked. PhasesRise asked.jobs.items) }
     ensures stopped { IfErr result (Stops (I.files inputs.old) (texts words.entry.now)) }
     ensures cause { StepCause (I.faults inputs.old) (I.faults inputs.new) result }
 {
@@ -312,10 +335,10 @@ pub fn find_tasks<'a, I: Inputs>(
         Ok(plan) => plan,
         Err(cause) => return Err(cause),
     };
-    match read_tasks(alloc, inputs, plan.jobs.as_slice()) {
-        Ok(tasks) => Ok(Asked {
+    match read_files(alloc, inputs, plan.jobs.as_slice()) {
+        Ok(jobs) => Ok(Asked {
             schema: plan.schema,
-            tasks,
+            jobs,
         }),
         Err(cause) => Err(cause),
     }

@@ -2,11 +2,11 @@
 #![tactic(auto)]
 
 mod causes;
-mod courses;
 mod inputs;
+mod laws;
 mod runs;
-mod statuses;
 mod streams;
 
 pub use causes::{Cause, Ended};
+pub use laws::stops;
 pub use runs::run;

@@ -1,68 +1,65 @@
 ghost use Rattle.std.specs.Prelude.{◌≡◌, ◌<◌, ◌≤◌, ℕ, length, IfOk, IfErr};
 ghost use Rattle.std.specs.List.{AllByRecursion};
 ghost use Rattle.command_line.specs.Words.{texts};
-ghost use Rattle.tablet_run.specs.Courses.{HasFewBytes};
-ghost use Rattle.tablet_run.specs.Runs.{Ends, InputCause, IsReport, PutAs, SinkCause};
-ghost use Rattle.tablet_run.specs.Statuses.{IsCalm, cause_status};
+ghost use Rattle.pk_model.specs.Books.{new_book};
+ghost use Rattle.reports.specs.Plain.{HasFewBytes, PhasesRise};
+ghost use Rattle.tablet_run.specs.Runs.{Ends, InputCause, IsReport, SinkCause};
+ghost use Rattle.tablet_run.specs.Statuses.{cause_status};
+ghost use Rattle.tablet_run.specs.Steps.{PutAs};
 
-use crate::causes::{Cause, Ended};
-use crate::courses::run_tasks;
-use crate::inputs::{Asked, find_tasks};
-use crate::statuses::status_of;
+use crate::causes::{Cause, Ended, cause_of};
+use crate::inputs::{Asked, find_jobs};
 use crate::streams::put_whole;
 use dev_traits::{Inputs, Sink};
-use pk_values::{Octets, Schema};
-use script_text::{Task, write_report};
+use pk_model::Book;
+use pk_values::Octets;
+use reports::{Ending, ending_of, run_jobs};
+use script_text::write_report;
 use std::alloc::{AllocError, Global};
 
-// The text of a report, and the status that its outcomes give.
+// The text of a report, and how its jobs ended.
 #[derive(Drop)]
-struct Told {
+struct Written {
     text: Octets,
-    status: u8,
+    ending: Ending,
 }
 
-// The report of tasks from a new book.
-fn report_tasks(alloc: Global, schema: &Schema, tasks: &[Task]) -> Result<Told, AllocError>
-    requires few { length tasks.now ≤ 4096 }
-    requires within { AllByRecursion HasFewBytes tasks.now }
-    ensures report { IfOk result (λ told. IsReport schema.now tasks.now told.text told.status) }
-    ensures calm { IfOk result (λ told. IsCalm told.status) }
+// The report of jobs from a new book.
+fn report_jobs(alloc: Global, asked: &Asked) -> Result<Written, AllocError>
+    requires few { length asked.now.jobs.items ≤ 4096 }
+    requires within { AllByRecursion HasFewBytes asked.now.jobs.items }
+    requires phases { PhasesRise asked.now.jobs.items }
+    ensures { IfOk result (λ written. IsReport asked.now.schema new_book asked.now.jobs.items written.text written.ending) }
 {
-    let course = run_tasks(alloc, schema, tasks)?;
+    let course = run_jobs(alloc, &asked.schema, Book::new(alloc), &asked.jobs)?;
     let outcomes = course.outcomes.as_slice();
     let text = write_report(alloc, course.order.as_slice(), outcomes)?;
-    let status = status_of(outcomes);
-    Ok(Told { text, status })
+    let ending = ending_of(outcomes);
+    Ok(Written { text, ending })
 }
 
-// Reports tasks from a new book.
-fn report_of(alloc: Global, asked: &Asked) -> Result<Told, Cause>
-    requires few { length asked.now.tasks.items ≤ 4096 }
-    requires within { AllByRecursion HasFewBytes asked.now.tasks.items }
-    ensures report { IfOk result (λ told. IsReport asked.now.schema asked.now.tasks.items told.text told.status) }
-    ensures calm { IfOk result (λ told. IsCalm told.status) }
+// Reports jobs from a new book.
+fn report_of(alloc: Global, asked: &Asked) -> Result<Written, Cause>
+    requires few { length asked.now.jobs.items ≤ 4096 }
+    requires within { AllByRecursion HasFewBytes asked.now.jobs.items }
+    requires phases { PhasesRise asked.now.jobs.items }
+    ensures report { IfOk result (λ written. IsReport asked.now.schema new_book asked.now.jobs.items written.text written.ending) }
     ensures memory { IfErr result (λ cause. cause ≡ Cause.Memory) }
 {
-    match report_tasks(alloc, &asked.schema, &asked.tasks) {
-        Ok(told) => Ok(told),
+    match report_jobs(alloc, asked) {
+        Ok(written) => Ok(written),
         Err(_) => Err(Cause::Memory),
     }
 }
 
 // Puts a report, and tells how its run ends.
-fn put_report<O: Sink>(out: &mut O, text: &[u8], status: u8) -> Cause
-    requires { IsCalm status }
-    ensures put { PutAs (O.held out.old) (O.held out.new) text.now status result }
+fn put_report<O: Sink>(out: &mut O, text: &[u8], ending: Ending) -> Cause
+    ensures put { PutAs (O.held out.old) (O.held out.new) text.now ending result }
     ensures inputs { (count : ℕ) → InputCause count count result }
     ensures sink { SinkCause (O.faults out.old) (O.faults out.new) result }
 {
     match put_whole(out, text) {
-        Ok(()) => match status {
-            0 => Cause::None,
-            1 => Cause::Refused,
-            _ => Cause::Memory,
-        },
+        Ok(()) => cause_of(ending),
         Err(_) => Cause::Sink,
     }
 }
@@ -75,19 +72,19 @@ fn attempt<'a, I: Inputs, O: Sink>(
     out: &mut O,
 ) -> Cause
     ensures same { I.files inputs.new ≡ I.files inputs.old }
-    ensures ends { Ends (I.files inputs.old) (texts words.entry.now) (O.held out.old) (O.held out.new) result }
+    ensures ends { Ends (record { files = I.files inputs.old; words = texts words.entry.now; book = new_book; before = O.held out.old; now = O.held out.new }) result }
     ensures inputs { InputCause (I.faults inputs.old) (I.faults inputs.new) result }
     ensures sink { SinkCause (O.faults out.old) (O.faults out.new) result }
 {
-    let asked = match find_tasks(alloc, words, inputs) {
+    let asked = match find_jobs(alloc, words, inputs) {
         Ok(asked) => asked,
         Err(cause) => return cause,
     };
-    let told = match report_of(alloc, &asked) {
-        Ok(told) => told,
+    let written = match report_of(alloc, &asked) {
+        Ok(written) => written,
         Err(cause) => return cause,
     };
-    put_report(out, told.text.as_slice(), told.status)
+    put_report(out, written.text.as_slice(), written.ending)
 }
 
 /// Runs the jobs of a script over a table: the words are `run TABLE SCRIPT`, which name the inputs of both, and each load job names the input of its file.
@@ -107,7 +104,7 @@ pub fn run<'a, I: Inputs, O: Sink>(
 ) -> Ended
     ensures same { I.files inputs.new ≡ I.files inputs.old }
     ensures status { result.status ≡ cause_status result.cause }
-    ensures ends { Ends (I.files inputs.old) (texts words.entry.now) (O.held out.old) (O.held out.new) result.cause }
+    ensures ends { Ends (record { files = I.files inputs.old; words = texts words.entry.now; book = new_book; before = O.held out.old; now = O.held out.new }) result.cause }
     ensures inputs { InputCause (I.faults inputs.old) (I.faults inputs.new) result.cause }
     ensures sink { SinkCause (O.faults out.old) (O.faults out.new) result.cause }
 {

@@ -1,12 +1,14 @@
 -- Fields that are put together tell their values.
-use Rattle.std.proofs.Common.{◌≡◌, ℕ, List, [], ◌∷◌, ◌++◌, length, take, refl, sym, ap, subst, ◌∙◌, arith, true, false, Some, None, append_assoc}
+use Rattle.std.proofs.Common.{◌≡◌, ℕ, List, [], ◌∷◌, ◌++◌, length, take, refl, sym, ap, subst, ◌∙◌, arith, true}
+use Rattle.std.proofs.Common.{false, Some, None, append_assoc}
 use Rattle.std.specs.Prelude.{All}
 use Rattle.std.specs.List.{flat_map}
 use Rattle.std.proofs.lemmas.List.{append_cancel_left, take_at}
 use Rattle.std.proofs.lemmas.List.Elements.{All-head, All-tail}
 use Rattle.byteorder.specs.Endian.{big_bytes, big_number}
 use Rattle.byteorder.specs.Numbers.{big_number-reads_back}
-use Rattle.value_bytes.specs.Fields.{Field, Tells, both, by, counted, flag, followed, number, optional, such, text, times, u8, u16, u32, u64}
+use Rattle.value_bytes.specs.Fields.{Field, Tells, both, by, counted, flag, followed, number, optional, such, text}
+use Rattle.value_bytes.specs.Fields.{times, u8, u16, u32, u64}
 
 -- texts of one length at the front of one list are the same
 pub same_front : (a b r s : List ℕ) → length a ≡ length b → a ++ r ≡ b ++ s → (a ≡ b) × (r ≡ s)
@@ -38,7 +40,8 @@ module _ {X Y : Type 0} where
   both-tells f g tf tg = followed-tells f (λ x. g) tf (λ x. tg)
 
   -- where the parts give the value back
-  pub by-tells : (parts : X → Y) (whole : Y → X) (f : Field Y) → ((x : X) → whole (parts x) ≡ x) → Tells f → Tells (by parts f)
+  pub by-tells : (parts : X → Y) (whole : Y → X) (f : Field Y) → ((x : X) → whole (parts x) ≡ x) → Tells f
+      → Tells (by parts f)
   by-tells parts whole f back tf x y r s fx fy h =
       let p = tf (parts x) (parts y) r s fx fy h in
       (sym (back x) ∙ ap whole p.0 ∙ back y, p.1)
@@ -47,7 +50,8 @@ module _ {X : Type 0} where
   pub such-tells : (f : Field X) (P : X → Type 0) → Tells f → Tells (such f P)
   such-tells f P tf x y r s fx fy h = tf x y r s fx.0 fy.0 h
 
-  times-tells-lists : (f : Field X) → Tells f → (xs ys : List X) (r s : List ℕ) → length xs ≡ length ys → All f.fits xs → All f.fits ys → flat_map f.bytes xs ++ r ≡ flat_map f.bytes ys ++ s → (xs ≡ ys) × (r ≡ s)
+  times-tells-lists : (f : Field X) → Tells f → (xs ys : List X) (r s : List ℕ) → length xs ≡ length ys
+      → All f.fits xs → All f.fits ys → flat_map f.bytes xs ++ r ≡ flat_map f.bytes ys ++ s → (xs ≡ ys) × (r ≡ s)
   times-tells-lists f tf [] [] r s e fx fy h = (refl, h)
   times-tells-lists f tf [] (y ∷ ys) r s e fx fy h = absurd (omega arith)
   times-tells-lists f tf (x ∷ xs) [] r s e fx fy h = absurd (omega arith)

@@ -3,7 +3,8 @@
 ghost use Rattle.std.specs.Prelude.{List, Option, ℕ};
 ghost use Rattle.value_bytes.specs.Fields.{Tells, number, text, counted, optional, u8, u16, u32, u64};
 
-/// Bytes tell what was written, whatever stands behind them: of numbers, texts, lists of numbers and what may be absent.
+/// Bytes tell what was written, whatever stands behind them: of numbers, texts, lists of numbers and what may be
+/// absent.
 pub fn fields()
     ensures numbers { (w : ℕ) → Tells (number w) }
     ensures texts { (w : ℕ) → Tells (text (number w)) }

@@ -1,5 +1,6 @@
 ghost use Rattle.std.specs.Prelude.{◌≡◌, IfErr, IfOk};
-ghost use Rattle.value_bytes.specs.Fields.{Field, Tells, counted, times, u8 as byte_field, u16 as u16_field, u32 as u32_field, u64 as u64_field};
+ghost use Rattle.value_bytes.specs.Fields.{Field, Tells, counted, times, u8 as byte_field, u16 as u16_field};
+ghost use Rattle.value_bytes.specs.Fields.{u32 as u32_field, u64 as u64_field};
 ghost use Rattle.value_bytes.specs.Reads.{NotRead, Reads};
 ghost use Rattle.value_bytes.specs.declared.reads.Unread.TheVariants.{NotOne};
 

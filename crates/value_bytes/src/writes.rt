@@ -1,6 +1,7 @@
 ghost use Rattle.std.specs.Prelude.{◌≡◌, ◌++◌, All, OnOk, OnErr};
 ghost use Rattle.std.specs.List.{flat_map};
-ghost use Rattle.value_bytes.specs.Fields.{Field, counted, flag, optional, text, u8 as byte_field, u16 as u16_field, u32 as u32_field, u64 as u64_field};
+ghost use Rattle.value_bytes.specs.Fields.{Field, counted, flag, optional, text, u8 as byte_field, u16 as u16_field};
+ghost use Rattle.value_bytes.specs.Fields.{u32 as u32_field, u64 as u64_field};
 ghost use Rattle.value_bytes.specs.Writes.{KeepsFront};
 
 use byteorder::{BigEndian, ByteOrder};

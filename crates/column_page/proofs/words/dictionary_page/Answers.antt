@@ -1,23 +1,17 @@
-use Rattle.std.proofs.Common.{◌≡◌, ◌∷◌, ◌++◌, [], List, ℕ, sym, ap, ◌∙◌, take, get_or, length, true}
+use Rattle.std.proofs.Common.{◌≡◌, ◌<◌, ◌+◌, ◌∷◌, ◌++◌, ℕ, List, Bor, get_or, length, take, sym, ap, ◌∙◌}
 use Rattle.std.specs.List.{concat}
-use Rattle.std.proofs.lemmas.List.{flat_map_more, take_more}
 use Rattle.column_page.specs.CellBytes.{u16_bytes}
-use Rattle.column_page.specs.Page.{Cell, distinct_after, is_among, place, places}
-use Rattle.column_page.proofs.WordFacts.{each_among}
+use Rattle.column_page.specs.Page.{Cell}
+use Rattle.column_page.specs.Texts.{lent}
+use Rattle.column_page.proofs.TextFacts.{put_text}
 use Rattle.column_page.proofs.words.dictionary_page.Goals as goal
 
-pub loop-cell-preserved : goal.loop-cell-preserved
-loop-cell-preserved c =
-    let xs = c.args.cells.now in
-    let i = c.loop-cell.cell-index in
-    let x = get_or xs i c.cell-item.result in
-    let words = distinct_after [] xs in
-    let head = 2 ∷ u16_bytes (length words) ++ concat words in
-    let is : c.as_slice.result.now ≡ x = c.as_slice.ensures ∙ c.cell-item.is in
-    let among : is_among c.as_slice.result.now words ≡ true = ap (λ (t : Cell). is_among t words) is ∙ each_among [] xs i c.cell-item.result c.loop-cell-test.true in
-    let stands : c.place.result ≡ place x words = c.place.ensures words c.requires among ∙ ap (λ (t : Cell). place t words) is in
-    c.in_ok-put_u16-2.ensures
-    ∙ ap (λ (t : List ℕ). t ++ u16_bytes c.place.result) c.loop-cell.invariant
-    ∙ ap (λ (n : ℕ). (head ++ places words (take i xs)) ++ u16_bytes n) stands
-    ∙ flat_map_more (λ (t : Cell). u16_bytes (place t words)) head (take i xs) x
-    ∙ ap (λ (t : List Cell). head ++ places words t) (sym (take_more xs i c.cell-item.result c.loop-cell-test.true))
+-- the same of a slice of these keys
+put_word : (head out new : List ℕ) (keys slice : List (Bor Cell)) (i : ℕ) (d : Bor Cell) → slice ≡ keys → i < length slice → out ≡ head ++ concat (take i (lent keys)) → new ≡ out ++ (get_or slice i d).now → new ≡ head ++ concat (take (i + 1) (lent keys))
+put_word head out new keys slice i d e lt so_far put =
+    put_text head out new slice i d lt (so_far ∙ ap (λ (ks : List (Bor Cell)). head ++ concat (take i (lent ks))) (sym e)) put ∙ ap (λ (ks : List (Bor Cell)). head ++ concat (take (i + 1) (lent ks))) e
+
+pub loop-word-preserved : goal.loop-word-preserved
+loop-word-preserved c =
+    let keys = c.args.words.now.words.keys in
+    put_word (2 ∷ u16_bytes (length keys)) c.loop-word.page.items c.extend_from_slice.new.self.items keys c.as_slice-word-items.result.now c.loop-word.word-index _ (c.as_slice-word-items.ensures).keys c.loop-word-test.true c.loop-word.invariant c.in_ok-extend_from_slice.ensures.items

@@ -7,5 +7,5 @@ abbrev pub invariant-loop-i : goal.invariant-loop-i
 invariant-loop-i l = record {
   reading : IsReading l.rdr;
   count : length l.ops ≡ l.i;
-  rest : lines_after l.schema l.fields l.ops (rows_left l.rdr) ≡ lines_after l.schema l.fields [] (rows_left l.initial.rdr);
+  rest : lines_after l.schema l.header.fields.items l.ops (rows_left l.rdr) ≡ lines_after l.schema l.header.fields.items [] (rows_left l.initial.rdr);
 }

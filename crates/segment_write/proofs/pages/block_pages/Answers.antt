@@ -5,7 +5,7 @@ use Rattle.pk_values.specs.declared.cells.Value.{Value}
 use Rattle.column_page.specs.Page.{AllFit}
 use Rattle.segment_form.specs.Segments.{column_cells}
 use Rattle.segment_form.proofs.Bodies.{body_long}
-use Rattle.segment_form.proofs.Fitting.{column_fits, typed_at}
+use Rattle.segment_form.proofs.Fitting.{column_fits, have_column, typed_at}
 use Rattle.segment_write.proofs.pages.block_pages.Goals as goal
 
 -- the column at hand is that of the schema
@@ -23,15 +23,19 @@ put_column-requires-clause-kind c =
     subst (λ (k : Column). IsTrue (is_kind k.kind)) (here c.columns-columns.result.now s.columns c.loop-i.i column same c.index-columns-i.is)
     (typed_at s (c.columns-columns.ensures).valid c.loop-i.i column (within c.columns-columns.result.now s.columns c.loop-i.i same c.loop-i-test.true))
 
+pub put_column-requires-clause-there : goal.put_column-requires-clause-there
+put_column-requires-clause-there c =
+    let s = c.args.schema.now in
+    let same = (c.columns-columns.ensures).value in
+    have_column s c.loop-i.i c.args.rows.now c.requires.fit (within c.columns-columns.result.now s.columns c.loop-i.i same c.loop-i-test.true)
+
 pub put_column-requires-clause-fits : goal.put_column-requires-clause-fits
 put_column-requires-clause-fits c =
     let s = c.args.schema.now in
     let column = c.index-columns-i.result in
     let same = (c.columns-columns.ensures).value in
-    let cells = (c.deref.ensures).value ∙ c.in_ok-cells.ensures in
-    subst (λ (values : List Value). AllFit column values) (sym cells)
-    (subst (λ (k : Column). AllFit k (column_cells c.loop-i.i c.args.rows.now)) (here c.columns-columns.result.now s.columns c.loop-i.i column same c.index-columns-i.is)
-    (column_fits s c.args.rows.now c.requires.fit c.loop-i.i column (within c.columns-columns.result.now s.columns c.loop-i.i same c.loop-i-test.true)))
+    subst (λ (k : Column). AllFit k (column_cells c.loop-i.i c.args.rows.now)) (here c.columns-columns.result.now s.columns c.loop-i.i column same c.index-columns-i.is)
+    (column_fits s c.args.rows.now c.requires.fit c.loop-i.i column (within c.columns-columns.result.now s.columns c.loop-i.i same c.loop-i-test.true))
 
 pub returns-clause-short : goal.returns-clause-short
 returns-clause-short c = body_long c.args.schema.now c.args.rows.now (c.columns-columns.ensures).valid c.requires.fit c.requires.few

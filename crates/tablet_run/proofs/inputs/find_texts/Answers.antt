@@ -1,6 +1,8 @@
 use Rattle.std.proofs.Common.{ℕ, refl, subst, inl, inr}
 use Rattle.command_line.specs.Words.{files_view, texts}
-use Rattle.tablet_run.specs.Runs.{InputCause, StopsAt, most_text}
+use Rattle.tablet_run.specs.Asks.{most_text}
+use Rattle.tablet_run.specs.Runs.{InputCause}
+use Rattle.tablet_run.specs.Steps.{StopsAt}
 use Rattle.tablet_run.proofs.InputLaws.{stops-at}
 use Rattle.tablet_run.proofs.inputs.find_texts.Goals as goal
 

@@ -1,5 +1,5 @@
 use Rattle.std.proofs.Common.{◌≡◌, ◌+◌, drop}
-use Rattle.tablet_run.specs.Runs.{first_unbuilt}
+use Rattle.tablet_run.specs.Asks.{first_unbuilt}
 use Rattle.tablet_run.proofs.inputs.first_unbuilt.Given as goal
 
 abbrev pub invariant-loop-i : goal.invariant-loop-i

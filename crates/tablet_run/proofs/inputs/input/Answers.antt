@@ -1,5 +1,5 @@
 use Rattle.std.proofs.Common.{◌≡◌, ℕ, List, rules, sym, subst}
-use Rattle.tablet_run.specs.Runs.{StopsAt}
+use Rattle.tablet_run.specs.Steps.{StopsAt}
 use Rattle.tablet_run.specs.Streams.{StopsInput}
 use Rattle.tablet_run.proofs.inputs.input.Goals as goal
 

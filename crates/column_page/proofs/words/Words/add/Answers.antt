@@ -1,22 +1,26 @@
-use Rattle.std.proofs.Common.{◌≡◌, ◌+◌, ◌++◌, List, ℕ, sym, ap, ◌∙◌, subst, cond, false}
-use Rattle.std.specs.Prelude.{Option, Some, is_some}
-use Rattle.std.specs.Str.{bytes_eq}
-use Rattle.std.proofs.lemmas.List.{length_push}
-use Rattle.std.proofs.lemmas.Map.Text.{btree_map_updates_str}
-use Rattle.column_page.specs.Page.{Cell, is_among}
-use Rattle.column_page.specs.Words.{Knows, found}
-use Rattle.column_page.proofs.Joined.{concat_push}
-use Rattle.column_page.proofs.WordFacts.{found_more, not_found, with_new}
+use Rattle.std.proofs.Common.{◌≡◌, ◌+◌, ◌≤◌, ℕ, Bool, true, false, not, sym, ◌∙◌, arith, refl, subst, length}
+use Rattle.std.specs.Prelude.{if◌then◌else◌}
+use Rattle.column_page.proofs.WordFacts.{known_more}
 use Rattle.column_page.proofs.words.Words.add.Goals as goal
 
-pub returns-clause-knows : goal.returns-clause-knows
-returns-clause-knows c words k =
-    let cell = c.args.cell.now in
-    let old = c.args.self.now in
-    let absent : is_among cell words ≡ false = not_found cell words (ap (λ (o : Option ℕ). is_some o) (sym (k.at cell)) ∙ sym c.contains_key.ensures ∙ c.if-contains_key.false) in
-    let updated = btree_map_updates_str cell old.places c.insert.new.self (Some old.count) c.in_ok-insert.ensures.updates in
-    subst (λ (ws : List Cell). Knows c.insert.new.self c.extend_from_slice.new.self.items (old.count + 1) ws) (with_new cell words absent) (record {
-      at = λ q. updated q ∙ ap (cond (bytes_eq cell q) (Some old.count)) (k.at q) ∙ ap (λ (n : ℕ). cond (bytes_eq cell q) (Some n) (found q words)) k.counted ∙ found_more cell q words absent;
-      joined = c.in_ok-extend_from_slice.ensures.items ∙ ap (λ (t : List ℕ). t ++ cell) k.joined ∙ sym (concat_push words cell);
-      counted = ap (λ (n : ℕ). n + 1) k.counted ∙ sym (length_push words cell);
-    })
+-- a new word adds its bytes
+when_new : (b is_new : Bool) (len more cell : ℕ) → is_new ≡ not b → is_new ≡ true → more ≤ len + cell → more ≤ (if b then len else len + cell)
+when_new true is_new len more cell e t le = cc
+when_new false is_new len more cell e t le = le
+
+when_old : (b is_new : Bool) (len cell : ℕ) → is_new ≡ not b → is_new ≡ false → len ≤ (if b then len else len + cell)
+when_old true is_new len cell e t = omega arith
+when_old false is_new len cell e t = cc
+
+pub returns-then-is_new-clause-knows : goal.returns-then-is_new-clause-knows
+returns-then-is_new-clause-knows c =
+    let inserted = c.in_ok-place.ensures in
+    let more : c.saturating_add-self.result ≤ c.args.self.now.len + length c.args.cell.now = omega (arith, c.saturating_add-self.ensures) in
+    known_more _ (λ a b. refl) c.args.cell c.args.self.now.words.keys c.insert_full.new.self.keys c.args.self.now.places.items c.put_u16.new.out.items c.args.self.now.len c.saturating_add-self.result c.in_ok-place.place
+    inserted.keys inserted.index c.in_ok-put_u16.ensures (when_new _ c.in_ok-place.is_new _ _ _ inserted.added c.if-is_new.true more)
+
+pub returns-else-is_new-clause-knows : goal.returns-else-is_new-clause-knows
+returns-else-is_new-clause-knows c =
+    let inserted = c.in_ok-place.ensures in
+    known_more _ (λ a b. refl) c.args.cell c.args.self.now.words.keys c.insert_full.new.self.keys c.args.self.now.places.items c.put_u16.new.out.items c.args.self.now.len c.args.self.now.len c.in_ok-place.place
+    inserted.keys inserted.index c.in_ok-put_u16.ensures (when_old _ c.in_ok-place.is_new _ _ inserted.added c.if-is_new.false)

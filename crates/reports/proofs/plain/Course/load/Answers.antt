@@ -1,3 +1,5 @@
+use Rattle.std.proofs.Common.{ap, false}
+use Rattle.reports.specs.Jobs.{is_partial}
 use Rattle.reports.proofs.PlainSteps.{load-calls, load-names, load-tells, on-ok, refused-does}
 use Rattle.reports.proofs.plain.Course.load.Goals as goal
 
@@ -8,5 +10,5 @@ returns-in-Ok c = on-ok c.whole.result _ _ (λ does j name is same.
 
 pub returns-in-Err : goal.returns-in-Err
 returns-in-Err c = on-ok c.tell.result _ _ (λ told j name is same.
-    refused-does c.args.schema.now c.args.number c.in-Err.refused c.args.file.now c.args.self.now c.tell.new.self j (load-names j.job.act name is) same c.in-Err.ensures.fault told)
+    refused-does c.args.schema.now c.args.number c.in-Err.refused false c.args.file.now c.args.self.now c.tell.new.self j (load-names j.job.act name is) (ap is_partial is) same c.in-Err.ensures.fault told)
     c.tell.ensures

@@ -1,0 +1,14 @@
+pub mod BucketFacts
+pub mod BucketReads
+pub mod ChainFacts
+pub mod EntriesFacts
+pub mod FooterFacts
+pub mod FormFacts
+pub mod Fronts
+pub mod IntactFacts
+pub mod MakingFacts
+pub mod ReaderFacts
+pub mod ReadingFacts
+pub mod SequenceFacts
+pub mod TailFacts
+pub mod RiseFacts

@@ -1,0 +1,12 @@
+pub mod Bodies
+pub mod Buckets
+pub mod Chains
+pub mod Damages
+pub mod Entries
+pub mod FooterFields
+pub mod Footers
+pub mod FormLaws
+pub mod Hash
+pub mod Making
+pub mod Reading
+pub mod Reads

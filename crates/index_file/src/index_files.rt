@@ -1,0 +1,187 @@
+ghost use Rattle.std.specs.Prelude.{◌≡◌, ◌<◌, ◌≤◌, IfErr, IfOk, IsTrue, List, length};
+ghost use Rattle.std.specs.Option.{option_map};
+ghost use Rattle.std.specs.FinMap.{find, get};
+ghost use Rattle.std.specs.Cmp.Lexicographic.{slice_cmp};
+ghost use Rattle.std.specs.Ordering.{nat_cmp};
+ghost use Rattle.dev_traits.specs.declared.faults.Part.TheVariants as part;
+ghost use Rattle.index_level0.specs.Levels.{Level};
+ghost use Rattle.index_file.specs.declared.footers.IndexFooter.{IndexFooter};
+ghost use Rattle.index_file.specs.Buckets.{Pair, bucket_of, buckets_for};
+ghost use Rattle.index_file.specs.Entries.{BucketShown, HasLevel, IsTheBucket, sum_fits, sums_fit, with_base};
+ghost use Rattle.index_file.specs.Footers.{FooterShown, HasFooter};
+ghost use Rattle.index_file.specs.Reads.{bucket_in, HasFailed, HasRead, IsDamage, KnowsFooter, OfBucket, OnDamage, OnFile, Reading, TellsDamage};
+
+use crate::bucket_reads::read_entries_of;
+use crate::chains::bucket_of;
+use crate::footer_reads::read_tail;
+use crate::footers::IndexFooter;
+use dev_traits::{ReadFault, SealedReader};
+use index_level0::{KeyBytes, Place};
+use std::alloc::Global;
+
+/// An index file that is read. Its footer is that of the reader's file.
+#[derive(Drop)]
+pub struct IndexFile<R: SealedReader> {
+    pub(crate) number: u64,
+    pub(crate) base: u64,
+    pub(crate) reader: R,
+    pub(crate) footer: IndexFooter,
+    ghost known: { ∥ KnowsFooter (R.view reader) footer ∥₁ },
+    ghost numbered: { length footer.buckets ≡ buckets_for footer.entries },
+}
+
+impl<R: SealedReader> IndexFile<R> {
+    /// The index file with this number, base and footer. It reads nothing and takes no memory.
+    pub fn of(number: u64, base: u64, reader: R, footer: IndexFooter) -> IndexFile<R>
+        requires known { KnowsFooter (R.view reader) footer }
+        requires numbered { length footer.buckets ≡ buckets_for footer.entries }
+        ensures number { result.number ≡ number }
+        ensures base { result.base ≡ base }
+        ensures reader { result.reader ≡ reader }
+        ensures footer { result.footer ≡ footer }
+    {
+        IndexFile {
+            number,
+            base,
+            reader,
+            footer,
+        }
+    }
+
+    /// The number of its file, which damage is told with.
+    pub fn number(&self) -> u64
+        ensures { result ≡ self.now.number }
+    {
+        self.number
+    }
+
+    /// What is added to the number of each place's segment.
+    pub fn base(&self) -> u64
+        ensures { result ≡ self.now.base }
+    {
+        self.base
+    }
+
+    /// How often the reader has failed.
+    pub fn faults(&self) -> u64
+        ensures { result ≡ (R.view self.now.reader).faults }
+    {
+        self.reader.faults()
+    }
+
+    /// The reader. It takes no memory.
+    pub fn into_reader(self) -> R
+        ensures { result ≡ self.reader }
+    {
+        let IndexFile {
+            number: _,
+            base: _,
+            reader,
+            footer: _,
+        } = self;
+        reader
+    }
+}
+
+/// The index file whose footer this reads: the last eight bytes, then the footer whose length they tell.
+///
+/// # Errors
+/// The reader, and why. `Damaged` tells the footer: with its digests exactly where the kept digest isn't that of the bytes before
+/// it, and else with `Form` exactly where the file has no footer. `StoreFault` where the reader counted a fault; `Memory`.
+pub fn attach_index<R: SealedReader>(
+    alloc: Global,
+    number: u64,
+    base: u64,
+    mut reader: R,
+) -> Result<IndexFile<R>, (R, ReadFault)>
+    ensures number { IfOk result (λ file. file.number ≡ number) }
+    ensures base { IfOk result (λ file. file.base ≡ base) }
+    ensures footer { IfOk result (λ file. KnowsFooter (R.view file.reader) file.footer) }
+
+    // A file has no other footer.
+    ensures only { IfOk result (λ file. OnFile (R.view reader) (λ bytes. (f : IndexFooter) → HasFooter f bytes → file.footer ≡ f)) }
+    ensures attached { IfOk result (λ file. HasRead 2 (R.view reader) (R.view file.reader)) }
+    ensures damaged { IfErr result (λ e. OnDamage e.1 (IsDamage number part.Footer (λ shown. OnFile (R.view reader) (λ bytes. FooterShown bytes shown)))) }
+    ensures refused { IfErr result (λ e. HasFailed 2 (R.view reader) (R.view e.0) e.1) }
+{
+    match read_tail(alloc, &mut reader, number) {
+        Ok(footer) => Ok(IndexFile {
+            number,
+            base,
+            reader,
+            footer,
+        }),
+        Err(fault) => Err((reader, fault)),
+    }
+}
+
+/// An entry counted from a base.
+pub(crate) fn with_base(entry: Option<Place>, base: u64) -> Option<Place>
+    requires { IsTrue (sum_fits base entry) }
+    ensures { result ≡ with_base base entry }
+{
+    match entry {
+        Some(place) => Some(Place {
+            segment: base + place.segment,
+            row: place.row,
+        }),
+        None => None,
+    }
+}
+
+// What entries have at a key, as they are stored.
+fn find_entry(entries: &[(KeyBytes, Option<Place>)], key: &[u8]) -> Option<Option<Place>>
+    ensures { result ≡ find (slice_cmp nat_cmp) key.now entries.now }
+{
+    for entry in entries {
+        if key.cmp(entry.0.as_slice()).is_eq() {
+            return Some(entry.1);
+        }
+    }
+    None
+}
+
+// The same, counted from a base.
+fn find_place(entries: &[(KeyBytes, Option<Place>)], key: &[u8], base: u64) -> Option<Option<Place>>
+    requires { IsTrue (sums_fit base entries.now) }
+    ensures { result ≡ option_map (with_base base) (find (slice_cmp nat_cmp) key.now entries.now) }
+{
+    match find_entry(entries, key) {
+        Some(entry) => Some(with_base(entry, base)),
+        None => None,
+    }
+}
+
+/// What the file has at a key: its place, None for a tombstone, or nothing. It reads the file at most once: the bucket of the key.
+///
+/// # Errors
+/// `Damaged` tells the bucket: with its digests exactly where the kept one isn't that of its bytes, and else with `Form` exactly
+/// where no entries have this bucket. `StoreFault` where the reader counted a fault; `Memory`.
+pub fn probe<R: SealedReader>(
+    alloc: Global,
+    file: &mut IndexFile<R>,
+    key: &[u8],
+) -> Result<Option<Option<Place>>, ReadFault>
+    ensures entry { IfOk result (λ entry. OnFile (R.view file.old.reader) (λ bytes. OfBucket file.old.footer (bucket_of (length file.old.footer.buckets) key.now) (λ mark.
+        (es : List Pair) × IsTheBucket (length file.old.footer.buckets) (bucket_of (length file.old.footer.buckets) key.now) file.old.base (bucket_in bytes mark) es
+        × (entry ≡ option_map (with_base file.old.base) (find (slice_cmp nat_cmp) key.now es))))) }
+
+    // Of the file of a level, the level's entry.
+    ensures level { IfOk result (λ entry. (level : Level) → HasLevel file.old.base file.old.footer (R.view file.old.reader) level → entry ≡ get level key.now) }
+    ensures damaged { IfErr result (λ e. OnDamage e (IsDamage file.old.number (part.Bucket (bucket_of (length file.old.footer.buckets) key.now)) (λ shown.
+        OnFile (R.view file.old.reader) (λ bytes. OfBucket file.old.footer (bucket_of (length file.old.footer.buckets) key.now) (λ mark.
+        BucketShown (length file.old.footer.buckets) (bucket_of (length file.old.footer.buckets) key.now) file.old.base mark.length (bucket_in bytes mark) shown))))) }
+    ensures intact { IfErr result (λ e. TellsDamage e → (level : Level) → HasLevel file.old.base file.old.footer (R.view file.old.reader) level → ⊥) }
+    ensures reading { Reading 1 (R.view file.old.reader) (R.view file.new.reader) result }
+    ensures number { file.new.number ≡ file.old.number }
+    ensures base { file.new.base ≡ file.old.base }
+    ensures footer { file.new.footer ≡ file.old.footer }
+{
+    let b = bucket_of(key, file.footer.buckets.len() as u64) as usize;
+    let number = file.number;
+    let base = file.base;
+    match read_entries_of(alloc, &mut file.reader, &file.footer, number, base, b) {
+        Ok(entries) => Ok(find_place(&entries, key, base)),
+        Err(fault) => Err(fault),
+    }
+}

@@ -1,0 +1,44 @@
+use Rattle.std.proofs.Common.{◌≡◌, ap, subst, sym, ◌∙◌, ◌∷◌, ◌-◌, ◌&&◌, ◌==◌, not, nat_lt, false, arith, length, take}
+use Rattle.std.specs.FinMap.{entries}
+use Rattle.index_level0.specs.Levels.{LevelWithRoom}
+use Rattle.index_levels.specs.Levels.{merged}
+use Rattle.pk_index.specs.Shown.{HaveLevels, index_of}
+use Rattle.pk_index.proofs.IndexFacts.{same_number}
+use Rattle.pk_index.proofs.MergedFacts.{all_written, if_fewer, if_some, kept_fewer, kept_more, newest_written}
+use Rattle.pk_index.proofs.index.PkIndex.gather.Goals as goal
+use Rattle.pk_index.proofs.index.PkIndex.gather.Goals.{then-count-most, else-count-most, else-count-most-2-via-then-count-most-2+else-keep-eq0, else-count-most-2-via-else-count-most-2}
+
+pub returns-then-keep-eq0-clause-entries : goal.returns-then-keep-eq0-clause-entries
+returns-then-keep-eq0-clause-entries g c files have =
+    let inside = subst (λ fs. HaveLevels g.F.FileLevel.has_level fs files) (λ i. (sym c.self.view_is i).files) have in
+    let lent = subst (λ fs. HaveLevels g.F.FileLevel.has_level fs files) (sym c.deref_mut.ensures.value) inside in
+    let number = same_number g.F.FileLevel.has_level c.args.self.now.files files have in
+    let n = c.mark-count.result - c.if-count-most.kept in
+    let count = c.mark-count.ensures.count in
+    all_written (index_of c.args.self.now.level0 files) c.args.keep c.args.most c.in_ok-all.all.items c.places.result.items
+    (omega (arith, count, number)) (omega arith) n
+    (elim c.if-count-most.branch [ then-count-most w ↦ omega (arith, count, number) | else-count-most w ↦ omega (arith, count, number) ])
+    (c.in_ok-all.ensures.entries files lent
+    ∙ ap (λ (l : LevelWithRoom). entries (merged (l.level ∷ take n files))) (λ i. (c.self.view_is i).level0))
+    c.places.ensures.places
+
+pub returns-clause-entries : goal.returns-clause-entries
+returns-clause-entries g c files have =
+    let inside = subst (λ fs. HaveLevels g.F.FileLevel.has_level fs files) (λ i. (sym c.self.view_is i).files) have in
+    let lent = subst (λ fs. HaveLevels g.F.FileLevel.has_level fs files) (sym c.deref_mut.ensures.value) inside in
+    let number = same_number g.F.FileLevel.has_level c.args.self.now.files files have in
+    let n = c.mark-count.result - c.if-count-most.kept in
+    let count = c.mark-count.ensures.count in
+    let same : c.mark-count.result ≡ length files = omega (arith, count, number) in
+    let some : (not (nat_lt (length files) c.args.most) && (c.args.keep == 0)) ≡ false =
+    elim c.else-count-most-2.branch [
+      | else-count-most-2-via-then-count-most-2+else-keep-eq0 w ↦ if_some (length files) c.args.most c.args.keep w.if-keep-eq0.false
+      | else-count-most-2-via-else-count-most-2 w ↦ if_fewer (length files) c.args.most c.args.keep (omega (arith, same))
+    ] in
+    newest_written (index_of c.args.self.now.level0 files) c.args.keep c.args.most c.in_ok-all.all.items some n
+    (elim c.if-count-most.branch [
+      | then-count-most w ↦ let k = kept_fewer (length files) c.args.most c.args.keep (omega (arith, same)) in omega (arith, same, k)
+      | else-count-most w ↦ let k = kept_more (length files) c.args.most c.args.keep (omega (arith, same)) in omega (arith, same, k)
+    ])
+    (c.in_ok-all.ensures.entries files lent
+    ∙ ap (λ (l : LevelWithRoom). entries (merged (l.level ∷ take n files))) (λ i. (c.self.view_is i).level0))

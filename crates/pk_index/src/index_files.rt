@@ -1,0 +1,38 @@
+use crate::entries::Pair;
+use crate::files::FileLevel;
+use dev_traits::{ReadFault, SealedReader};
+use index_file::IndexFile;
+use index_level0::Place;
+use std::alloc::Global;
+
+impl<R: SealedReader> FileLevel for IndexFile<R> {
+    ghost use Rattle.index_file.specs.Entries.{HasLevel};
+
+    ghost has_level = { λ f level. HasLevel f.base f.footer (R.view f.reader) level };
+
+    ghost reads = { λ f. (R.view f.reader).reads };
+
+    ghost faults = { λ f. (R.view f.reader).faults };
+
+    ghost named = { λ f. (f.number, f.base) };
+
+    fn number(&self) -> u64 {
+        self.number()
+    }
+
+    fn base(&self) -> u64 {
+        self.base()
+    }
+
+    fn faults(&self) -> u64 {
+        self.faults()
+    }
+
+    fn probe(&mut self, alloc: Global, key: &[u8]) -> Result<Option<Option<Place>>, ReadFault> {
+        index_file::probe(alloc, self, key)
+    }
+
+    fn entries(&mut self, alloc: Global) -> Result<Vec<Pair>, ReadFault> {
+        index_file::entries(alloc, self)
+    }
+}

@@ -1,0 +1,76 @@
+ghost use Rattle.std.specs.Prelude.{◌≡◌, ◌+◌, ◌<◌, ◌≤◌, ◌*◌, IfOk, IfErr, length};
+ghost use Rattle.dev_traits.specs.declared.faults.Part.TheVariants as place;
+ghost use Rattle.dev_traits.specs.declared.faults.ReadFault.TheVariants as read;
+ghost use Rattle.segment_read.specs.Blocks.{BlockShown};
+ghost use Rattle.segment_read.specs.Reads.{block_in, IsDamage, OfBlock, OfFile, OnDamage, Reading};
+ghost use Rattle.segment_read.specs.Rows.{IsRowsDamage};
+ghost use Rattle.rowsets.specs.Scans.{Piece, alive};
+ghost use Rattle.rowsets.specs.Scans as scans;
+ghost use Rattle.snapshot_scan.specs.Parts.{IsPart, IsPieceOf, live_in, read_by, seen};
+
+use crate::live::live_rows;
+use del_vector::DelVector;
+use dev_traits::{ReadFault, SealedReader};
+use pk_values::{Row, Schema};
+use segment_read::{Segment, block, rows_of};
+use std::alloc::Global;
+
+// The live ones of rows that were read.
+fn only_live(
+    alloc: Global,
+    rows: Vec<Row>,
+    first: u32,
+    dead: &DelVector,
+) -> Result<Vec<Row>, ReadFault>
+    requires { first + length rows.items ≤ 65536 }
+    ensures live { IfOk result (λ live. live.items ≡ alive dead.now first rows.items) }
+    ensures memory { IfErr result (λ e. e ≡ read.Memory) }
+{
+    match live_rows(alloc, rows, first, dead) {
+        Ok(live) => Ok(live),
+        Err(_) => Err(ReadFault::Memory),
+    }
+}
+
+/// The live rows of a block, by one read.
+pub fn live_block<R: SealedReader>(
+    alloc: Global,
+    schema: &Schema,
+    part: &mut (Segment<R>, DelVector),
+    b: u32,
+) -> Result<Vec<Row>, ReadFault>
+    requires part { IsPart schema.now (seen R.view part.old) }
+    requires there { b < length part.old.0.footer.blocks }
+    ensures live { IfOk result (λ live. (piece : Piece) → IsPieceOf schema.now (seen R.view part.old) piece → live.items ≡ live_in b piece) }
+    ensures damaged { IfErr result (λ e. OnDamage e (IsDamage part.old.0.number (place.Block b) (λ shown.
+        OfFile (R.view part.old.0.reader) (λ file. OfBlock part.old.0.footer b (λ mark. BlockShown schema.now mark (block_in file mark) shown))))) }
+    ensures intact { IfErr result (λ e. OnDamage e (λ damaged. (piece : Piece) → IsPieceOf schema.now (seen R.view part.old) piece → ⊥)) }
+    ensures reading { Reading 1 (R.view part.old.0.reader) (R.view part.new.0.reader) result }
+    ensures kept { seen R.view part.new ≡ read_by (R.view part.new.0.reader) (seen R.view part.old) }
+    ensures part { IsPart schema.now (seen R.view part.new) }
+{
+    match block(alloc, schema, &mut part.0, b) {
+        Ok(rows) => only_live(alloc, rows, b * 1024, &part.1),
+        Err(fault) => Err(fault),
+    }
+}
+
+/// The live rows, by one read for each block.
+pub fn live_part<R: SealedReader>(
+    alloc: Global,
+    schema: &Schema,
+    part: &mut (Segment<R>, DelVector),
+) -> Result<Vec<Row>, ReadFault>
+    requires part { IsPart schema.now (seen R.view part.old) }
+    ensures live { IfOk result (λ live. (piece : Piece) → IsPieceOf schema.now (seen R.view part.old) piece → live.items ≡ scans.live_rows piece) }
+    ensures damaged { IfErr result (λ e. OnDamage e (IsRowsDamage schema.now part.old.0.footer part.old.0.number (R.view part.old.0.reader))) }
+    ensures intact { IfErr result (λ e. OnDamage e (λ damaged. (piece : Piece) → IsPieceOf schema.now (seen R.view part.old) piece → ⊥)) }
+    ensures reading { Reading (length part.old.0.footer.blocks) (R.view part.old.0.reader) (R.view part.new.0.reader) result }
+    ensures kept { seen R.view part.new ≡ read_by (R.view part.new.0.reader) (seen R.view part.old) }
+    ensures part { IsPart schema.now (seen R.view part.new) }
+{
+    match rows_of(alloc, schema, &mut part.0) {
+        Ok(rows) => only_live(alloc, rows, 0, &part.1),
+        Err(fault) => Err(fault),
+    }
+}

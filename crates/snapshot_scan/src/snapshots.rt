@@ -1,0 +1,176 @@
+ghost use Rattle.std.specs.Prelude.{◌≡◌, ◌-◌, ◌^◌, ◌<◌, min, ℕ, List, map, IfOk, IfErr, OnOk, OnErr, IfSome, IfNone, IsErr, None, Some, [], ◌∷◌, ◌++◌, length, slice_get};
+ghost use Rattle.std.specs.FinMap.{len, values};
+ghost use Rattle.pk_values.specs.declared.cells.Value.{Value};
+ghost use Rattle.pk_model.specs.Tables.{Rows};
+ghost use Rattle.dev_traits.specs.Causes.{Counts};
+ghost use Rattle.dev_traits.specs.View.{Calm};
+ghost use Rattle.dev_traits.specs.declared.faults.Part.TheVariants as place;
+ghost use Rattle.column_page.specs.declared.footers.Footer.{Footer};
+ghost use Rattle.segment_read.specs.Blocks.{BlockShown};
+ghost use Rattle.segment_read.specs.Reads.{block_in, IsDamage, OfBlock, OfFile, OnDamage, Reading};
+ghost use Rattle.segment_read.specs.Rows.{IsRowsDamage};
+ghost use Rattle.rowsets.specs.Scans.{Piece};
+ghost use Rattle.rowsets.specs.Scans as scans;
+ghost use Rattle.snapshot_scan.specs.Parts.{IsPieceOf, live_in, PartView, seen};
+ghost use Rattle.snapshot_scan.specs.Snapshots.{AreParts, fault_count, IsSnapshotOf, live_count, ReadsPart, SnapshotView};
+
+use crate::parts::{live_block, live_part};
+use column_page::Footer;
+use del_vector::DelVector;
+use dev_traits::{ReadFault, SealedReader, Store};
+use pk_values::{Row, Schema};
+use segment_read::Segment;
+use std::alloc::Global;
+use std::marker::Model;
+
+/// The live rows of a version: of each segment, numbered from 0, those that aren't dead. It stays
+/// as it is, whatever becomes of the version.
+#[derive(Drop)]
+pub struct Snapshot<R: SealedReader> {
+    version: u64,
+    schema: Schema,
+    parts: Vec<(Segment<R>, DelVector)>,
+}
+
+impl<R: SealedReader> Model for Snapshot<R> {
+    ghost use Rattle.std.specs.Prelude.{map};
+    ghost use Rattle.snapshot_scan.specs.Parts.{seen};
+    ghost use Rattle.snapshot_scan.specs.Snapshots.{AreParts, SnapshotView};
+
+    ghost Value = { SnapshotView };
+
+    ghost view = { λ s. record { version = s.version; schema = s.schema; parts = map (seen R.view) s.parts.items } };
+
+    ghost invariant = { λ s. AreParts s.schema (map (seen R.view) s.parts.items) };
+}
+
+impl<R: SealedReader> Snapshot<R> {
+    /// The snapshot of a version: its segments, each with its dead rows.
+    pub fn of(version: u64, schema: Schema, parts: Vec<(Segment<R>, DelVector)>) -> Snapshot<R>
+        requires { AreParts schema (map (seen R.view) parts.items) }
+        ensures version { result.version ≡ version }
+        ensures schema { result.schema ≡ schema }
+        ensures parts { result.parts ≡ map (seen R.view) parts.items }
+    {
+        Snapshot {
+            version,
+            schema,
+            parts,
+        }
+    }
+
+    /// The number of the version.
+    pub fn version(&self) -> u64
+        ensures { result ≡ self.now.version }
+    {
+        self.version
+    }
+
+    /// How many segments there are.
+    pub fn segments(&self) -> u64
+        ensures { result ≡ length self.now.parts }
+    {
+        self.parts.len() as u64
+    }
+
+    /// How many rows are live. It reads nothing.
+    pub fn count(&self) -> u64
+        ensures count { result ≡ live_count self.now.parts }
+
+        // As many as the map has for which the snapshot stands.
+        ensures size { (m : Rows) → IsSnapshotOf self.now m → result ≡ len m }
+    {
+        let mut count = 0;
+        for part in &self.parts {
+            count += u64::from(part.0.footer.rows() - part.1.count());
+        }
+        count
+    }
+
+    /// The number of a segment's file.
+    pub fn file(&self, i: u64) -> u64
+        requires { i < length self.now.parts }
+        ensures { IfSome (slice_get self.now.parts i) (λ part. result ≡ part.number) }
+    {
+        self.parts[i as usize].0.number
+    }
+
+    /// The dead rows of a segment.
+    pub fn dead(&self, i: u64) -> &DelVector
+        requires { i < length self.now.parts }
+        ensures { IfSome (slice_get self.now.parts i) (λ part. result.now ≡ part.dead) }
+    {
+        &self.parts[i as usize].1
+    }
+
+    /// The footer of a segment.
+    pub fn footer(&self, i: u64) -> &Footer
+        requires { i < length self.now.parts }
+        ensures { IfSome (slice_get self.now.parts i) (λ part. result.now ≡ part.footer) }
+    {
+        &self.parts[i as usize].0.footer
+    }
+
+    /// How often the readers have failed, at most the last u64.
+    pub fn faults(&self) -> u64
+        ensures { result ≡ min (fault_count self.now.parts) (2 ^ 64 - 1) }
+    {
+        let mut faults: u64 = 0;
+        for part in &self.parts {
+            faults = faults.saturating_add(part.0.faults());
+        }
+        faults
+    }
+
+    /// The live rows of a segment in the order of their keys, by one read for each of its blocks.
+    ///
+    /// # Errors
+    /// Those of reading its rows.
+    pub fn segment_rows(&mut self, alloc: Global, i: u64) -> Result<Vec<Row>, ReadFault>
+        requires { i < length self.old.parts }
+        ensures live { IfOk result (λ live. IfSome (slice_get self.old.parts i) (λ part. (piece : Piece) → IsPieceOf self.old.schema part piece → live.items ≡ scans.live_rows piece)) }
+        ensures damaged { IfErr result (λ e. IfSome (slice_get self.old.parts i) (λ part. OnDamage e (IsRowsDamage self.old.schema part.footer part.number part.reader))) }
+
+        // No damage is told of the file of a segment.
+        ensures intact { IfErr result (λ e. IfSome (slice_get self.old.parts i) (λ part. OnDamage e (λ damaged. (piece : Piece) → IsPieceOf self.old.schema part piece → ⊥))) }
+
+        // Of all readers that of this segment alone is read.
+        ensures reading { ReadsPart i self.old.parts self.new.parts (λ part reader. Reading (length part.footer.blocks) part.reader reader result) }
+        ensures version { self.new.version ≡ self.old.version }
+        ensures schema { self.new.schema ≡ self.old.schema }
+    {
+        live_part(alloc, &self.schema, &mut self.parts[i as usize])
+    }
+
+    /// The live rows of block `b` of a segment, counted from 0, by one read.
+    ///
+    /// # Errors
+    /// Those of reading the block.
+    pub fn block_rows(&mut self, alloc: Global, i: u64, b: u32) -> Result<Vec<Row>, ReadFault>
+        requires there { i < length self.old.parts }
+        requires block { IfSome (slice_get self.old.parts i) (λ part. b < length part.footer.blocks) }
+        ensures live { IfOk result (λ live. IfSome (slice_get self.old.parts i) (λ part. (piece : Piece) → IsPieceOf self.old.schema part piece → live.items ≡ live_in b piece)) }
+        ensures damaged { IfErr result (λ e. IfSome (slice_get self.old.parts i) (λ part. OnDamage e (IsDamage part.number (place.Block b) (λ shown.
+            OfFile part.reader (λ file. OfBlock part.footer b (λ mark. BlockShown self.old.schema mark (block_in file mark) shown)))))) }
+
+        // No damage is told of the file of a segment.
+        ensures intact { IfErr result (λ e. IfSome (slice_get self.old.parts i) (λ part. OnDamage e (λ damaged. (piece : Piece) → IsPieceOf self.old.schema part piece → ⊥))) }
+        ensures reading { ReadsPart i self.old.parts self.new.parts (λ part reader. Reading 1 part.reader reader result) }
+        ensures version { self.new.version ≡ self.old.version }
+        ensures schema { self.new.schema ≡ self.old.schema }
+    {
+        live_block(alloc, &self.schema, &mut self.parts[i as usize], b)
+    }
+}
+
+/// Hands all readers of a snapshot to the store, which counts their faults.
+pub fn give_back_snapshot<S: Store>(store: &mut S, snapshot: Snapshot<S::Reader>)
+    ensures calm { Calm (S.view store.old) (S.view store.new) }
+    ensures counts { Counts (fault_count snapshot.parts) (S.view store.old).faults (S.view store.new).faults }
+{
+    let Snapshot { parts, .. } = snapshot;
+    let mut left = parts.into_iter();
+    while let Some((segment, _)) = left.next() {
+        store.give_back_reader(segment.reader);
+    }
+}
