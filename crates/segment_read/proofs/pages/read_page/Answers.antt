@@ -1,4 +1,5 @@
 use Rattle.std.proofs.Common.{sym, ap, ◌∙◌}
+use Rattle.std.proofs.lemmas.Bool.{true≢false}
 use Rattle.std.proofs.lemmas.Result.{err_from_is_err_and}
 use Rattle.column_page.specs.Footers.{mark_of}
 use Rattle.column_page.specs.Page.{page_of}
@@ -19,7 +20,7 @@ returns-then-not-is_same-clause-none c is cells rest are short marked e =
     let one = sized_one page (page_of c.args.column.now cells) _ rest c.args.bytes.now c.in-Some.ensures.short short c.in-Some.ensures.front e in
     let same = c.in_ok-cells.ensures.only cells are (sym one.0) in
     let equal = c.is_same.ensures.1 (c.mark_of.ensures ∙ ap mark_of (c.deref.ensures.value ∙ same) ∙ marked) in
-    cc
+    true≢false (sym equal ∙ c.if-not-is_same.true)
 
 pub returns-clause-within : goal.returns-clause-within
 returns-clause-within c = sized_within c.in-Some.page.now _ c.args.bytes.now c.in-Some.ensures.front
