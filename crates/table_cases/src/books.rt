@@ -1,7 +1,7 @@
 ghost use Rattle.std.specs.Prelude.{◌≤◌, ◌<◌, ◌^◌, ◌+◌};
 ghost use Rattle.pk_model.specs.Books.{greatest_number};
 
-use crate::reports::reply_text;
+use crate::report_texts::reply_text;
 use crate::schemas::Schemas;
 use case_texts::values_text;
 use pk_model::{Book, Call, Load, Op, Reply, Want, step};

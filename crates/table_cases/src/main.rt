@@ -6,7 +6,7 @@ mod books;
 mod cells;
 mod keys;
 mod loads;
-mod reports;
+mod report_texts;
 mod runs;
 mod schemas;
 mod scripts;
@@ -107,7 +107,7 @@ impl Desk {
             "items" => schemas::items(alloc, words),
             "rows" => self.course.rows(alloc, words),
             "full" => self.course.full(alloc),
-            "report" => reports::listed(alloc, words),
+            "report" => report_texts::listed(alloc, words),
             "cause" => self.runs.cause(alloc, words),
             "words" => runs::words(alloc, words),
             "help" => runs::help(alloc, words),
