@@ -119,7 +119,7 @@ impl Files {
     }
 
     // Keeps a segment that was made, and tells its length, its rows and its blocks.
-    fn keep(&mut self, alloc: Global, made: Made<Vec<u8>>) -> Result<String, AllocError> {
+    fn keep(&mut self, alloc: Global, made: Made<Keeper>) -> Result<String, AllocError> {
         self.bytes = made.sealed;
         let blocks = made.footer.blocks();
         let last = if blocks > 0 {
