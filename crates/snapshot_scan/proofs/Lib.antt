@@ -3,3 +3,8 @@ pub mod StreamFacts
 pub mod PartFacts
 pub mod CountFacts
 pub mod SnapFacts
+pub mod CursorFacts
+pub mod LeftFacts
+pub mod StepFacts
+pub mod FillFacts
+pub mod BeginFacts
