@@ -19,17 +19,9 @@ use Rattle.snapshot_scan.specs.Snapshots.{ArePieces}
 abbrev Row : Type 0
 Row = List Value
 
-is_true : (b : Bool) → b ≡ true → IsTrue b
-is_true true e = tt
-is_true false e = cc
-
-from_true : (b : Bool) → IsTrue b → b ≡ true
-from_true true h = refl
-from_true false h = absurd h
-
 rise_on : (s : Layout) (z x : Row) (xs : List Row) → IsTrue (below s z x) → RowsRise s (x ∷ xs) → RowsRise s (z ∷ xs)
 rise_on s z x [] lt rise = tt
-rise_on s z x (y ∷ xs) lt rise = (is_true (below s z y) (below_both s z x y (from_true (below s z x) lt) (from_true (below s x y) rise.0)), rise.1)
+rise_on s z x (y ∷ xs) lt rise = (below_both s z x y lt rise.0, rise.1)
 
 tail_rises : (s : Layout) (x : Row) (xs : List Row) → RowsRise s (x ∷ xs) → RowsRise s xs
 tail_rises s x [] rise = tt
@@ -37,19 +29,19 @@ tail_rises s x (y ∷ xs) rise = rise.1
 
 alive_behind : (s : Layout) (dead : List ℕ) (i : ℕ) (z : Row) (xs : List Row) → RowsRise s (z ∷ xs) → RowsRise s (z ∷ alive dead i xs)
 alive_behind s dead i z [] rise = tt
-alive_behind s dead i z (x ∷ xs) rise = go (list_any (λ r. r == i) dead)
+alive_behind s dead i z (x ∷ xs) rise = go (list_any (λ r. r == i) dead) (alive_behind s dead (i + 1) z xs (rise_on s z x xs rise.0 rise.1)) (alive_behind s dead (i + 1) x xs rise.1)
   where
-    go : (b : Bool) → RowsRise s (z ∷ cond b (alive dead (i + 1) xs) (x ∷ alive dead (i + 1) xs))
-    go true = alive_behind s dead (i + 1) z xs (rise_on s z x xs rise.0 rise.1)
-    go false = (rise.0, alive_behind s dead (i + 1) x xs rise.1)
+    go : (b : Bool) → RowsRise s (z ∷ alive dead (i + 1) xs) → RowsRise s (x ∷ alive dead (i + 1) xs) → RowsRise s (z ∷ cond b (alive dead (i + 1) xs) (x ∷ alive dead (i + 1) xs))
+    go true without both = without
+    go false without both = (rise.0, both)
 
 alive_rises : (s : Layout) (dead : List ℕ) (i : ℕ) (xs : List Row) → RowsRise s xs → RowsRise s (alive dead i xs)
 alive_rises s dead i [] rise = tt
-alive_rises s dead i (x ∷ xs) rise = go (list_any (λ r. r == i) dead)
+alive_rises s dead i (x ∷ xs) rise = go (list_any (λ r. r == i) dead) (alive_rises s dead (i + 1) xs (tail_rises s x xs rise))
   where
-    go : (b : Bool) → RowsRise s (cond b (alive dead (i + 1) xs) (x ∷ alive dead (i + 1) xs))
-    go true = alive_rises s dead (i + 1) xs (tail_rises s x xs rise)
-    go false = alive_behind s dead (i + 1) x xs rise
+    go : (b : Bool) → RowsRise s (alive dead (i + 1) xs) → RowsRise s (cond b (alive dead (i + 1) xs) (x ∷ alive dead (i + 1) xs))
+    go true more = more
+    go false more = alive_behind s dead (i + 1) x xs rise
 
 rows_rise : (s : Layout) (rows : List Row) → KeysRise s rows → RowsRise s rows
 rows_rise s [] h = tt

@@ -1,5 +1,5 @@
 -- The first blocks of all parts, read one after the other.
-use Rattle.std.proofs.Common.{◌≡◌, ◌≢◌, refl, ap, sym, subst, ◌∙◌, ◌⊎◌, inl, inr, ℕ, zero, suc, ◌+◌, ◌-◌, ◌^◌, ◌<◌, ◌≤◌, min, List, [], ◌∷◌, ◌++◌, length, length-append, map, slice_get, slice_set, Option, Some, None, Result, Ok, Err, IfErr, IsOk, Unit, arith}
+use Rattle.std.proofs.Common.{◌≡◌, ◌≢◌, refl, ap, sym, subst, ◌∙◌, ◌⊎◌, inl, inr, ℕ, zero, suc, ◌+◌, ◌-◌, ◌^◌, ◌<◌, ◌≤◌, min, List, [], ◌∷◌, ◌++◌, length, length-append, map, slice_get, slice_set, Option, Some, None, Result, Ok, Err, IfErr, IsOk, arith}
 use Rattle.pk_values.specs.Schemas.{Layout}
 use Rattle.pk_values.specs.declared.cells.Value.{Value}
 use Rattle.dev_traits.specs.Reader.{ReaderView}
@@ -56,7 +56,7 @@ filled_settled i old mid new filled same = subst (FilledTo (i + 1) old) (sym sam
 })
 
 -- it was read
-pub filled_due : (s : Layout) (i b : ℕ) (old mid new : List PartView) (u : Unit {0}) → FilledTo i old mid → ReadsDue {Unit {0}} s i b mid new (Ok u) → FilledTo (i + 1) old new
+pub filled_due : (s : Layout) (i b : ℕ) (old mid new : List PartView) (u : Unit {0}) → FilledTo i old mid → ReadsDue s i b mid new (Ok u) → FilledTo (i + 1) old new
 filled_due s i b old mid new u filled reads = record {
   long = ap length reads.now ∙ length-set mid i (read_by reads.reader reads.part) ∙ filled.long;
   done = λ j part lt e. elim (same_place j i) [
@@ -73,7 +73,7 @@ filled_due s i b old mid new u filled reads = record {
 
 -- the reading of it failed
 pub fill_failed : (v : SnapshotView) (cs : List CursorView) (s : Layout) (i b : ℕ) (fault : ReadFault) (old new : List PartView) → FilledTo i old v.parts → AreCursors v cs → IsDue cs i b
-    → ReadsDue {Unit {0}} s i b v.parts new (Err fault) → ScanFailed s fault old new
+    → ReadsDue {T = Unit {0}} s i b v.parts new (Err fault) → ScanFailed s fault old new
 fill_failed v cs s i b fault old new filled are due reads = record { reads = record { long = ap length reads.now ∙ length-set v.parts i (read_by reads.reader reads.part) ∙ filled.long; each = each }; cause = λ ne. failed }
   where
     there : slice_get old i ≡ Some reads.part

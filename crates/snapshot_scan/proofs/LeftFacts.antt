@@ -52,8 +52,11 @@ left_set (c ∷ cs) [] (suc i) old new e same = refl
 left_set (c ∷ cs) (piece ∷ pieces) zero old new e same = ap (λ xs. xs ∷ rows_left cs pieces) (same piece refl ∙ ap (λ (c : CursorView). c.rows ++ rows_ahead c.ahead piece) (sym (some_one c old e)))
 left_set (c ∷ cs) (piece ∷ pieces) (suc i) old new e same = ap (λ xs. (c.rows ++ rows_ahead c.ahead piece) ∷ xs) (left_set cs pieces i old new e same)
 
+abbrev made : List Row → Option ℕ → CursorView
+made rows ahead = record { rows = rows; ahead = ahead }
+
 pub due_is : (c : CursorView) (b : ℕ) → c.rows ≡ [] → c.ahead ≡ Some b → c ≡ record { rows = []; ahead = Some b }
-due_is c b e f = ap (λ (rows : List Row). (record { rows = rows; ahead = c.ahead } : CursorView)) e ∙ ap (λ (ahead : Option ℕ). (record { rows = []; ahead = ahead } : CursorView)) f
+due_is c b e f = ap (λ rows. made rows c.ahead) e ∙ ap (made []) f
 
 -- what is due of a cursor
 pub due_some : (c : CursorView) (b : ℕ) → due c ≡ Some b → c ≡ record { rows = []; ahead = Some b }
@@ -119,7 +122,7 @@ gives_first s cs pieces w c long none lead at = go c.rows refl
     go : (rows : List Row) → c.rows ≡ rows → Gives (head_of rows) (merge_all s (rows_left cs pieces)) (λ rest. rest ≡ merge_all s (rows_left (slice_set cs w (one_less c)) pieces))
     go [] e =
         let all = merge_none s (rows_left cs pieces) w leads (fronts w ∙ front_is cs w c at ∙ ap head_of e) in
-        let still : one_less c ≡ c = ap (λ (rows : List Row). (record { rows = drop 1 rows; ahead = c.ahead } : CursorView)) e ∙ ap (λ (rows : List Row). (record { rows = rows; ahead = c.ahead } : CursorView)) (sym e) in
+        let still : one_less c ≡ c = ap (λ rows. made (drop 1 rows) c.ahead) e ∙ ap (λ rows. made rows c.ahead) (sym e) in
         (all, sym (ap (λ d. merge_all s (rows_left (slice_set cs w d) pieces)) still ∙ ap (λ ds. merge_all s (rows_left ds pieces)) (set_same cs w c at) ∙ all))
     go (r ∷ q) e =
         let t = left_taken cs pieces w c r q long at e in

@@ -1,5 +1,5 @@
 -- Reading the block that is due, and taking a row, keep what holds of a scan.
-use Rattle.std.proofs.Common.{◌≡◌, refl, ap, sym, subst, ◌∙◌, ◌⊎◌, inl, inr, ℕ, zero, suc, ◌+◌, ◌<◌, ◌≤◌, ◌==◌, List, [], ◌∷◌, ◌++◌, length, drop, slice_get, slice_set, Option, Some, None, Bool, true, false, Result, Ok, Err, IfOk, IfErr, All, IsTrue, arith}
+use Rattle.std.proofs.Common.{◌≡◌, refl, ap, sym, subst, ◌∙◌, ◌⊎◌, inl, inr, ℕ, zero, suc, ◌+◌, ◌<◌, ◌≤◌, ◌==◌, List, [], ◌∷◌, ◌++◌, length, drop, slice_get, slice_set, get_or, Option, Some, None, Bool, true, false, Result, Ok, Err, IfOk, IfErr, IfSome, All, IsTrue, arith}
 use Rattle.std.proofs.lemmas.Bool.{eqb-true, eqb-false}
 use Rattle.std.proofs.lemmas.List.Elements.{All-nil, All-tail}
 use Rattle.pk_values.specs.Schemas.{Layout, fits_row}
@@ -10,14 +10,14 @@ use Rattle.dev_traits.specs.declared.faults.Damaged.{Damaged}
 use Rattle.segment_read.specs.Reads.{OnDamage, Reading}
 use Rattle.rowsets.specs.Scans.{Piece}
 use Rattle.row_merge.specs.Brackets.{end, IsBracket, IsStale, start}
-use Rattle.row_merge.specs.Cursors.{CursorView, Fit, front_at}
+use Rattle.row_merge.specs.Cursors.{CursorView, due, Fit, front_at}
 use Rattle.row_merge.specs.declared.brackets.Bracket.{Bracket}
 use Rattle.row_merge.proofs.BracketFacts.{stale_of, stale_still}
 use Rattle.snapshot_scan.specs.Parts.{PartView, IsPieceOf, live_from, read_by}
-use Rattle.snapshot_scan.specs.Scans.{AreCursors, IsCursor, IsDue, IsPlayed, IsSettled, NoneDue, ReadOn, rows_ahead, rows_left, Taken}
+use Rattle.snapshot_scan.specs.Scans.{AreCursors, HasLive, IsCursor, IsDue, IsPlayed, IsSettled, NoneDue, ReadOn, ReadsDue, rows_ahead, rows_left, Taken}
 use Rattle.snapshot_scan.specs.Snapshots.{ArePieces, ReadsPart, SnapshotView}
-use Rattle.snapshot_scan.proofs.ListFacts.{get_other, get_set, length-set, none_some, some_one}
-use Rattle.snapshot_scan.proofs.LeftFacts.{left_set, one_less, piece_there, pieces_set, same_front}
+use Rattle.snapshot_scan.proofs.ListFacts.{at_index, get_other, get_set, length-set, none_some, some_one}
+use Rattle.snapshot_scan.proofs.LeftFacts.{due_none, due_some, left_set, one_less, piece_there, pieces_set, same_front}
 use Rattle.snapshot_scan.proofs.PartFacts.{on_damage}
 
 abbrev Row : Type 0
@@ -155,3 +155,30 @@ none_due cs new i settled others now j b e = elim (same_place j i) [
   | inl g ↦ now b (ap (slice_get new) (sym g) ∙ e)
   | inr g ↦ settled j g b (sym (others j g) ∙ e)
 ]
+
+-- ---- what is due of the cursor in a place
+
+pub due_at : (cs : List CursorView) (i : ℕ) (x : CursorView) (o : Option ℕ) (b : ℕ) → i < length cs → x ≡ get_or cs i x → o ≡ due x → o ≡ Some b → IsDue cs i b
+due_at cs i x o b lt is e f = at_index cs i x lt is ∙ ap Some (due_some x b (sym e ∙ f))
+
+pub settled_at : (cs : List CursorView) (i : ℕ) (x : CursorView) (o : Option ℕ) → i < length cs → x ≡ get_or cs i x → o ≡ due x → o ≡ None → IsSettled cs i
+settled_at cs i x o lt is e f b g = due_none x b (sym e ∙ f) (some_one x (record { rows = []; ahead = Some b }) (sym (at_index cs i x lt is) ∙ g))
+
+pub same_due : (cs : List CursorView) (i b d : ℕ) → IsDue cs i b → IsDue cs i d → b ≡ d
+same_due cs i b d e f = some_one b d (ap (λ (c : CursorView). c.ahead) (some_one (record { rows = []; ahead = Some b }) (record { rows = []; ahead = Some d }) (sym e ∙ f)))
+
+pub live_at : (v : SnapshotView) (cs : List CursorView) (i b : ℕ) → AreCursors v cs → IsDue cs i b → IfSome (slice_get v.parts i) (λ part. HasLive part.footer.rows part.dead b)
+live_at v cs i b are due = go (slice_get v.parts i) refl
+  where
+    go : (o : Option PartView) → slice_get v.parts i ≡ o → IfSome o (λ part. HasLive part.footer.rows part.dead b)
+    go None e = tt
+    go (Some part) e = (are.each i part (record { rows = []; ahead = Some b }) e due).1
+
+pub due_err : {T : Type 0} (s : Layout) (i d : ℕ) (old new : List PartView) (fault : ReadFault) {b : ℕ} → b ≡ d → ReadsPart i old new (λ part reader. ReadOn s part b reader (Err fault)) → ReadsDue {T = T} s i d old new (Err fault)
+due_err {T} s i d old new fault {b} same reads = subst (λ k. ReadsDue {T = T} s i k old new (Err fault)) same (record {
+  part = reads.part;
+  there = reads.there;
+  reader = reads.reader;
+  now = reads.now;
+  how = (reads.how.reading, reads.how.damaged);
+})

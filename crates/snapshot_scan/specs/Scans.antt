@@ -1,5 +1,5 @@
 -- A scan under way, and the rows that it has still to give.
-use Rattle.std.specs.Prelude.{◌≡◌, ◌≢◌, ◌⊎◌, ℕ, ◌+◌, ◌*◌, ◌-◌, ◌<◌, ◌≤◌, List, [], ◌∷◌, ◌++◌, Option, Some, None, length, drop, slice_get, slice_set, false, ◌==◌, ⊥, IfSome, IfNone, IfOk, IfErr, Result}
+use Rattle.std.specs.Prelude.{◌≡◌, ◌≢◌, ◌⊎◌, ℕ, ◌+◌, ◌*◌, ◌-◌, ◌<◌, ◌≤◌, List, [], ◌∷◌, ◌++◌, Option, Some, None, length, drop, slice_get, slice_set, false, ◌==◌, IfSome, IfNone, IfOk, IfErr, Result}
 use Rattle.std.specs.List.{list_any}
 use Rattle.pk_values.specs.Schemas.{Layout}
 use Rattle.pk_values.specs.declared.cells.Value.{Value}
@@ -99,9 +99,9 @@ abbrev pub ReadsDue : {T : Type 0} → Layout → ℕ → ℕ → List PartView 
 ReadsDue s i b old new result = ReadsPart i old new (λ part reader. Reading 1 part.reader reader result × IfErr result (λ e. OnDamage e (IsBlockDamage s part b)))
 
 -- a bracket of all cursors, but for the matches of one part
-pub record IsPlayed (s : Layout) (cursors : List CursorView) (open : ℕ) (bracket : Bracket) : Type 0 where
-  pub there : open < length cursors
-  pub stale : IsStale s (front_at cursors) (length cursors) open bracket
+pub record IsPlayed (s : Layout) (cursors : List CursorView) (last : ℕ) (bracket : Bracket) : Type 0 where
+  pub there : last < length cursors
+  pub stale : IsStale s (front_at cursors) (length cursors) last bracket
   pub from : start bracket ≡ 0
   pub to : end bracket ≡ length cursors
 
@@ -113,10 +113,10 @@ pub record Taken (old : List CursorView) (i : ℕ) (new : List CursorView) : Typ
 
 -- The cursors of a scan, of which no block is due but of the part that gave the last row; a bracket of them, unless there
 -- is no part; and a fault that lasts, if there was one.
-pub record IsScanning (v : SnapshotView) (cursors : List CursorView) (bracket : Option Bracket) (open : ℕ) (fault : Option ReadFault) : Type 0 where
+pub record IsScanning (v : SnapshotView) (cursors : List CursorView) (bracket : Option Bracket) (last : ℕ) (fault : Option ReadFault) : Type 0 where
   pub are : AreCursors v cursors
-  pub settled : (i : ℕ) → (i ≡ open → ⊥) → IsSettled cursors i
-  pub played : IfSome bracket (IsPlayed v.schema cursors open)
+  pub settled : (i : ℕ) → (i ≡ last → ⊥) → IsSettled cursors i
+  pub played : IfSome bracket (IsPlayed v.schema cursors last)
   pub empty : IfNone bracket (cursors ≡ [])
   pub lasts : IfSome fault (λ e. IsKept e fault)
 

@@ -53,16 +53,16 @@ pub fn take_first(
     schema: &Schema,
     cursors: &mut Vec<Cursor>,
     bracket: &mut Bracket,
-    open: usize,
+    last: usize,
 ) -> (Option<Row>, usize)
     requires fit { AllFit schema.now cursors.old.items }
     requires none_due { NoneDue cursors.old.items }
-    requires played { IsPlayed schema.now cursors.old.items open bracket.old }
+    requires played { IsPlayed schema.now cursors.old.items last bracket.old }
     ensures gives { (pieces : List Piece) → length pieces ≡ length cursors.old.items → Gives result.0 (merge_all schema.now (rows_left cursors.old.items pieces)) (λ rest. rest ≡ merge_all schema.now (rows_left cursors.new.items pieces)) }
     ensures taken { Taken cursors.old.items result.1 cursors.new.items }
     ensures played { IsPlayed schema.now cursors.new.items result.1 bracket.new }
 {
-    bracket.replay(schema, cursors, open);
+    bracket.replay(schema, cursors, last);
     let first = bracket.first();
     let row = cursors[first].pop();
     (row, first)

@@ -23,7 +23,7 @@ pub struct Scan<R: SealedReader> {
     // None where there is no segment.
     bracket: Option<Bracket>,
     // The part that gave the last row, whose matches aren't played again yet.
-    open: usize,
+    last: usize,
     fault: Option<ReadFault>,
 }
 
@@ -34,7 +34,7 @@ impl<R: SealedReader> Model for Scan<R> {
 
     ghost view = { λ s. record { snapshot = s.snapshot; cursors = s.cursors.items; fault = s.fault } };
 
-    ghost invariant = { λ s. IsScanning s.snapshot s.cursors.items s.bracket s.open s.fault };
+    ghost invariant = { λ s. IsScanning s.snapshot s.cursors.items s.bracket s.last s.fault };
 }
 
 impl<R: SealedReader> Snapshot<R> {
@@ -61,7 +61,7 @@ impl<R: SealedReader> Snapshot<R> {
                 snapshot: self,
                 cursors,
                 bracket,
-                open: 0,
+                last: 0,
                 fault: None,
             }),
             Err(fault) => Err((self, fault)),
@@ -112,11 +112,11 @@ impl<R: SealedReader> Scan<R> {
         let Some(bracket) = &mut self.bracket else {
             return Ok(None);
         };
-        match refill(alloc, &mut self.snapshot, &mut self.cursors, self.open) {
+        match refill(alloc, &mut self.snapshot, &mut self.cursors, self.last) {
             Ok(()) => {
                 let schema = self.snapshot.schema();
-                let (row, open) = take_first(schema, &mut self.cursors, bracket, self.open);
-                self.open = open;
+                let (row, last) = take_first(schema, &mut self.cursors, bracket, self.last);
+                self.last = last;
                 Ok(row)
             }
             Err(fault) => {
