@@ -13,6 +13,7 @@ use Rattle.snapshot_scan.specs.Scans.{AreCursors, IsBlockDamage, IsCursor, IsDue
 use Rattle.snapshot_scan.specs.Snapshots.{ArePieces, ReadsPart, SnapshotView}
 use Rattle.snapshot_scan.proofs.ListFacts.{get_other, get_set, length-set, none_some, some_one}
 use Rattle.snapshot_scan.proofs.LeftFacts.{due_none, due_some, get_there, got_within}
+use Rattle.snapshot_scan.proofs.PartFacts.{on_damage}
 use Rattle.snapshot_scan.proofs.StepFacts.{same_place}
 
 -- a block of the part is due or none is
@@ -171,3 +172,34 @@ first_left_go s (x ∷ parts) (piece ∷ pieces) (c ∷ cs) told long rows =
 
 pub first_left : (v : SnapshotView) (i : ℕ) (cs : List CursorView) → AreFirst v i cs → i ≡ length v.parts → (pieces : List Piece) → ArePieces v.schema v.parts pieces → rows_left cs pieces ≡ map live_rows pieces
 first_left v i cs are is pieces told = first_left_go v.schema v.parts pieces cs told (are.long ∙ is) are.rows
+
+-- ---- one step of filling
+
+pub settled_more : (cs new : List CursorView) (i : ℕ) → ((j : ℕ) → j < i → IsSettled cs j) → ((j : ℕ) → (j ≡ i → ⊥) → slice_get new j ≡ slice_get cs j) → IsSettled new i → (j : ℕ) → j < i + 1 → IsSettled new j
+settled_more cs new i settled others now j lt b e = elim (same_place j i) [
+  | inl g ↦ now b (ap (slice_get new) (sym g) ∙ e)
+  | inr g ↦ settled j (omega arith) b (sym (others j g) ∙ e)
+]
+
+pub none_due_all : (cs : List CursorView) (n : ℕ) → length cs ≤ n → ((j : ℕ) → j < n → IsSettled cs j) → (j b : ℕ) → IsDue cs j b → ⊥
+none_due_all cs n le settled j b e = let lt = got_within cs j (record { rows = []; ahead = Some b }) e in settled j (omega arith) b e
+
+pub fill_more : (s : Layout) (cs : List CursorView) (i : ℕ) (old : List PartView) (mid new : SnapshotView) (u : Unit {0}) → FilledTo i old mid.parts → i < length cs → (IsSettled cs i → new ≡ mid)
+    → ((b : ℕ) → IsDue cs i b → ReadsDue s i b mid.parts new.parts (Ok u)) → FilledTo (i + 1) old new.parts
+fill_more s cs i old mid new u filled lt same reads = elim (settled_or_due cs i lt) [
+  | inl h ↦ filled_settled i old mid.parts new.parts filled (ap (λ (v : SnapshotView). v.parts) (same h))
+  | inr h ↦ filled_due s i h.0 old mid.parts new.parts u filled (reads h.0 h.1)
+]
+
+pub fill_fails : (v : SnapshotView) (cs : List CursorView) (s : Layout) (i : ℕ) (fault : ReadFault) (old new : List PartView) → FilledTo i old v.parts → AreCursors v cs → i < length cs
+    → (IsSettled cs i → ⊥) → ((b : ℕ) → IsDue cs i b → ReadsDue {T = Unit {0}} s i b v.parts new (Err fault)) → ScanFailed s fault old new
+fill_fails v cs s i fault old new filled are lt unsettled reads = elim (settled_or_due cs i lt) [
+  | inl h ↦ absurd (unsettled h)
+  | inr h ↦ fill_failed v cs s i h.0 fault old new filled are h.1 (reads h.0 h.1)
+]
+
+pub none_damaged : (old mid : SnapshotView) (fault : ReadFault) → ((pieces : List Piece) → ArePieces old.schema old.parts pieces → ArePieces mid.schema mid.parts pieces)
+    → OnDamage fault (λ damaged. (pieces : List Piece) → ArePieces mid.schema mid.parts pieces → ⊥) → OnDamage fault (λ damaged. (pieces : List Piece) → ArePieces old.schema old.parts pieces → ⊥)
+none_damaged old mid fault still none =
+    on_damage fault (λ damaged. (pieces : List Piece) → ArePieces mid.schema mid.parts pieces → ⊥) (λ damaged. (pieces : List Piece) → ArePieces old.schema old.parts pieces → ⊥)
+    (λ damaged no pieces told. no pieces (still pieces told)) none

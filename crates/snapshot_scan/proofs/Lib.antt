@@ -6,5 +6,7 @@ pub mod SnapFacts
 pub mod CursorFacts
 pub mod LeftFacts
 pub mod StepFacts
+pub mod TakeFacts
 pub mod FillFacts
 pub mod BeginFacts
+pub mod NextFacts

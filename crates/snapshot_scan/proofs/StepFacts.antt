@@ -174,8 +174,8 @@ live_at v cs i b are due = go (slice_get v.parts i) refl
     go None e = tt
     go (Some part) e = (are.each i part (record { rows = []; ahead = Some b }) e due).1
 
-pub due_err : {T : Type 0} (s : Layout) (i d : ℕ) (old new : List PartView) (fault : ReadFault) {b : ℕ} → b ≡ d → ReadsPart i old new (λ part reader. ReadOn s part b reader (Err fault)) → ReadsDue {T = T} s i d old new (Err fault)
-due_err {T} s i d old new fault {b} same reads = subst (λ k. ReadsDue {T = T} s i k old new (Err fault)) same (record {
+pub due_err : (T : Type 0) (s : Layout) (i b d : ℕ) (old new : List PartView) (fault : ReadFault) → b ≡ d → ReadsPart i old new (λ part reader. ReadOn s part b reader (Err fault)) → ReadsDue {T = T} s i d old new (Err fault)
+due_err T s i b d old new fault same reads = subst (λ k. ReadsDue {T = T} s i k old new (Err fault)) same (record {
   part = reads.part;
   there = reads.there;
   reader = reads.reader;

@@ -52,7 +52,7 @@ returns-in-Err-clause-at_hand g c settled =
 
 pub returns-in-Err-clause-read : goal.returns-in-Err-clause-read
 returns-in-Err-clause-read g c b due =
-    due_err c.args.snapshot.now.schema c.args.i b c.args.snapshot.now.parts c.read_on.new.self.parts c.in-Err.fault
+    due_err (Unit {0}) c.args.snapshot.now.schema c.args.i c.in-Some.b b c.args.snapshot.now.parts c.read_on.new.self.parts c.in-Err.fault
     (same_due c.args.cursors.now.items c.args.i c.in-Some.b b
     (due_at c.args.cursors.now.items c.args.i c.index.result.now c.due.result c.in-Some.b c.requires.there c.index.ensures c.due.ensures c.in-Some.is) due) c.in-Err.ensures.read
 

@@ -1,4 +1,4 @@
-use Rattle.std.proofs.Common.{◌∙◌, ◌+◌, ap, sym, subst, tt, IfSome}
+use Rattle.std.proofs.Common.{◌∙◌, ◌+◌, ap, sym, subst, IfSome}
 use Rattle.column_page.specs.declared.footers.FooterFields.{FooterFields}
 use Rattle.row_merge.specs.Cursors.{CursorView}
 use Rattle.snapshot_scan.specs.Parts.{PartView, seen}
