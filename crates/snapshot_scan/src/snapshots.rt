@@ -12,13 +12,15 @@ ghost use Rattle.segment_read.specs.Rows.{IsRowsDamage};
 ghost use Rattle.rowsets.specs.Scans.{Piece};
 ghost use Rattle.rowsets.specs.Scans as scans;
 ghost use Rattle.snapshot_scan.specs.Parts.{IsPieceOf, live_in, PartView, seen};
+ghost use Rattle.snapshot_scan.specs.Scans.{HasLive, IsCursor, ReadOn, rows_ahead};
 ghost use Rattle.snapshot_scan.specs.Snapshots.{AreParts, fault_count, IsSnapshotOf, live_count, ReadsPart, SnapshotView};
 
-use crate::parts::{live_block, live_part};
+use crate::parts::{first_cursor, live_block, live_part, read_on};
 use column_page::Footer;
 use del_vector::DelVector;
 use dev_traits::{ReadFault, SealedReader, Store};
 use pk_values::{Row, Schema};
+use row_merge::Cursor;
 use segment_read::Segment;
 use std::alloc::Global;
 use std::marker::Model;
@@ -160,6 +162,33 @@ impl<R: SealedReader> Snapshot<R> {
         ensures schema { self.new.schema ≡ self.old.schema }
     {
         live_block(alloc, &self.schema, &mut self.parts[i as usize], b)
+    }
+
+    /// The schema of the rows.
+    pub fn schema(&self) -> &Schema
+        ensures { result.now ≡ self.now.schema }
+    {
+        &self.schema
+    }
+
+    // The cursor before the live rows of a segment.
+    pub(crate) fn first_cursor(&self, alloc: Global, i: u64) -> Cursor
+        requires { i < length self.now.parts }
+        ensures cursor { IfSome (slice_get self.now.parts i) (λ part. IsCursor self.now.schema part result) }
+        ensures rows { IfSome (slice_get self.now.parts i) (λ part. (piece : Piece) → IsPieceOf self.now.schema part piece → result.rows ++ rows_ahead result.ahead piece ≡ scans.live_rows piece) }
+    {
+        first_cursor(alloc, &self.parts[i as usize])
+    }
+
+    // The cursor at the live rows of a block that has one, by one read.
+    pub(crate) fn read_on(&mut self, alloc: Global, i: u64, b: u32) -> Result<Cursor, ReadFault>
+        requires there { i < length self.old.parts }
+        requires live { IfSome (slice_get self.old.parts i) (λ part. HasLive part.footer.rows part.dead b) }
+        ensures read { ReadsPart i self.old.parts self.new.parts (λ part reader. ReadOn self.old.schema part b reader result) }
+        ensures version { self.new.version ≡ self.old.version }
+        ensures schema { self.new.schema ≡ self.old.schema }
+    {
+        read_on(alloc, &self.schema, &mut self.parts[i as usize], b)
     }
 }
 
