@@ -5,7 +5,8 @@ use Rattle.std.proofs.lemmas.Bool.{and_parts, and_from, leb-true, lt-ltb, le-leb
 use Rattle.journal_form.specs.declared.records.NewFile.{NewFile}
 use Rattle.journal_form.specs.declared.records.DeadRows.{DeadRows}
 use Rattle.journal_form.specs.declared.records.ListedFile.{ListedFile}
-use Rattle.journal_form.specs.Versions.{Rowset, above, all_below, rise_from, bound, changes_fit, compacted_rowsets, consecutive, file_numbered, files_fit, files_of, marked, marked_file, new_rowset, numbers_of, published_rowsets, rows_changed, rows_fit, whole_file, with_rows}
+use Rattle.journal_form.specs.Versions.{Rowset, above, all_below, rise_from, bound, changes_fit, compacted_rowsets, consecutive, file_numbered, files_fit, files_of, marked, marked_file, new_rowset, numbers_of, published_rowsets, rows_changed, rows_fit, whole_file}
+use Rattle.rowsets.specs.Marks.{with_rows}
 use Rattle.journal_form.specs.Meaning.{distinct, file_fits}
 use Rattle.journal_form.proofs.Numbers.{above-least, all_from, below_above, below_append, below_end, below_head, below_more, below_tail, distinct_cons, distinct_end, distinct_head, distinct_high_low, distinct_low_high, distinct_tail, not_above, stands_in, with_rows-below, with_rows-rises}
 
