@@ -10,4 +10,4 @@ mod schema_writers;
 
 pub use laws::{bodies, records};
 pub use record_readers::{ReadRecord, read_record};
-pub use record_writers::put_record;
+pub use record_writers::write_record;

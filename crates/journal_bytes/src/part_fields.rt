@@ -1,4 +1,9 @@
+ghost use Rattle.std.specs.Prelude.{◌≡◌, ◌++◌, OnOk};
+ghost use Rattle.value_bytes.specs.Fields.{both, counted, u16 as u16_field, u32 as u32_field};
+ghost use Rattle.value_bytes.specs.Writes.{KeepsFront};
+
 use journal_form::{DeadRows, LevelFile, LevelList, ListedFile, NewFile};
+use pk_values::Items;
 use std::alloc::{AllocError, Global};
 use value_bytes::{
     FieldReader, FieldWriter, U16, Unread, put_list, put_u32, put_u64, read_list, read_u32,
@@ -153,6 +158,22 @@ impl FieldWriter for LevelListField {
     }
 }
 
+// The rows of a file of a version, and the dead ones among them.
+fn put_rows(
+    alloc: Global,
+    out: &mut Vec<u8>,
+    rows: u32,
+    dead: &Items<u16>,
+) -> Result<(), AllocError>
+    requires { (both u32_field (counted u32_field u16_field)).fits (rows, dead.now) }
+    ensures ok { OnOk result (out.new.items ≡ out.old.items
+        ++ (both u32_field (counted u32_field u16_field)).bytes (rows, dead.now)) }
+    ensures before { KeepsFront out.old.items out.new.items }
+{
+    put_u32(out, rows)?;
+    put_list::<U16>(alloc, out, dead)
+}
+
 // A file of a version.
 pub(crate) struct ListedFileField;
 
@@ -189,7 +210,6 @@ impl FieldWriter for ListedFileField {
 
     fn put(alloc: Global, out: &mut Vec<u8>, value: &ListedFile) -> Result<(), AllocError> {
         put_u64(out, value.file)?;
-        put_u32(out, value.rows)?;
-        put_list::<U16>(alloc, out, &value.dead)
+        put_rows(alloc, out, value.rows, &value.dead)
     }
 }

@@ -11,83 +11,80 @@ use pk_values::{Items, Octets, Schema};
 use std::alloc::{AllocError, Global};
 use value_bytes::{LongList, LongText, put_long_list, put_optional, put_u64};
 
-fn put_create(
-    alloc: Global,
-    out: &mut Vec<u8>,
-    edit: u64,
-    form: u8,
-    schema: &Schema,
-) -> Result<(), AllocError>
+fn write_create(alloc: Global, edit: u64, form: u8, schema: &Schema) -> Result<Vec<u8>, AllocError>
     requires { RecordFits edit (told_.Create form schema.now) }
-    ensures { OnOk result (out.new.items ≡ out.old.items ++ record_bytes edit (told_.Create form schema.now)) }
+    ensures { IfOk result (λ body. body.items ≡ record_bytes edit (told_.Create form schema.now)) }
 {
+    let mut out = Vec::new(alloc);
     out.push(1)?;
-    put_u64(out, edit)?;
+    put_u64(&mut out, edit)?;
     out.push(form)?;
-    put_schema(alloc, out, schema)
+    put_schema(alloc, &mut out, schema)?;
+    Ok(out)
 }
 
-fn put_publish(
+fn write_publish(
     alloc: Global,
-    out: &mut Vec<u8>,
     edit: u64,
     version: u64,
     files: &Items<NewFile>,
     changed: &Items<DeadRows>,
-) -> Result<(), AllocError>
+) -> Result<Vec<u8>, AllocError>
     requires { RecordFits edit (told_.Publish version files.now changed.now) }
-    ensures { OnOk result (out.new.items ≡ out.old.items ++ record_bytes edit (told_.Publish version files.now changed.now)) }
+    ensures { IfOk result (λ body. body.items ≡ record_bytes edit (told_.Publish version files.now changed.now)) }
 {
+    let mut out = Vec::new(alloc);
     out.push(2)?;
-    put_u64(out, edit)?;
-    put_u64(out, version)?;
-    put_long_list::<NewFileField>(alloc, out, files)?;
-    put_long_list::<DeadRowsField>(alloc, out, changed)
+    put_u64(&mut out, edit)?;
+    put_u64(&mut out, version)?;
+    put_long_list::<NewFileField>(alloc, &mut out, files)?;
+    put_long_list::<DeadRowsField>(alloc, &mut out, changed)?;
+    Ok(out)
 }
 
-fn put_compact(
+fn write_compact(
     alloc: Global,
-    out: &mut Vec<u8>,
     edit: u64,
     version: u64,
     replaced: u64,
     files: &Items<NewFile>,
     changed: &Items<DeadRows>,
     levels: &Option<LevelList>,
-) -> Result<(), AllocError>
+) -> Result<Vec<u8>, AllocError>
     requires { RecordFits edit (told_.Compact version replaced files.now changed.now levels.now) }
-    ensures { OnOk result (out.new.items ≡ out.old.items ++ record_bytes edit (told_.Compact version replaced files.now changed.now levels.now)) }
+    ensures { IfOk result (λ body. body.items ≡ record_bytes edit (told_.Compact version replaced files.now changed.now levels.now)) }
 {
+    let mut out = Vec::new(alloc);
     out.push(3)?;
-    put_u64(out, edit)?;
-    put_u64(out, version)?;
-    put_u64(out, replaced)?;
-    put_long_list::<NewFileField>(alloc, out, files)?;
-    put_long_list::<DeadRowsField>(alloc, out, changed)?;
-    put_optional::<LevelListField>(alloc, out, levels)
+    put_u64(&mut out, edit)?;
+    put_u64(&mut out, version)?;
+    put_u64(&mut out, replaced)?;
+    put_long_list::<NewFileField>(alloc, &mut out, files)?;
+    put_long_list::<DeadRowsField>(alloc, &mut out, changed)?;
+    put_optional::<LevelListField>(alloc, &mut out, levels)?;
+    Ok(out)
 }
 
-fn put_floor(alloc: Global, out: &mut Vec<u8>, edit: u64, floor: u64) -> Result<(), AllocError>
+fn write_floor(alloc: Global, edit: u64, floor: u64) -> Result<Vec<u8>, AllocError>
     requires { RecordFits edit (told_.Floor floor) }
-    ensures { OnOk result (out.new.items ≡ out.old.items ++ record_bytes edit (told_.Floor floor)) }
+    ensures { IfOk result (λ body. body.items ≡ record_bytes edit (told_.Floor floor)) }
 {
+    let mut out = Vec::new(alloc);
     out.push(4)?;
-    put_u64(out, edit)?;
-    put_u64(out, floor)
+    put_u64(&mut out, edit)?;
+    put_u64(&mut out, floor)?;
+    Ok(out)
 }
 
-fn put_levels(
-    alloc: Global,
-    out: &mut Vec<u8>,
-    edit: u64,
-    levels: &Option<LevelList>,
-) -> Result<(), AllocError>
+fn write_levels(alloc: Global, edit: u64, levels: &Option<LevelList>) -> Result<Vec<u8>, AllocError>
     requires { RecordFits edit (told_.Levels levels.now) }
-    ensures { OnOk result (out.new.items ≡ out.old.items ++ record_bytes edit (told_.Levels levels.now)) }
+    ensures { IfOk result (λ body. body.items ≡ record_bytes edit (told_.Levels levels.now)) }
 {
+    let mut out = Vec::new(alloc);
     out.push(5)?;
-    put_u64(out, edit)?;
-    put_optional::<LevelListField>(alloc, out, levels)
+    put_u64(&mut out, edit)?;
+    put_optional::<LevelListField>(alloc, &mut out, levels)?;
+    Ok(out)
 }
 
 // The tag of a checkpoint, its edit, epoch, form and schema.
@@ -126,9 +123,8 @@ fn put_listed(
     put_optional::<LevelListField>(alloc, out, levels)
 }
 
-fn put_checkpoint(
+fn write_checkpoint(
     alloc: Global,
-    out: &mut Vec<u8>,
     edit: u64,
     epoch: u64,
     form: u8,
@@ -138,44 +134,39 @@ fn put_checkpoint(
     rowsets: &Items<Items<ListedFile>>,
     kept: &Items<Octets>,
     levels: &Option<LevelList>,
-) -> Result<(), AllocError>
+) -> Result<Vec<u8>, AllocError>
     requires { RecordFits edit (told_.Checkpoint epoch form schema.now next_file floor rowsets.now kept.now levels.now) }
-    ensures { OnOk result (out.new.items ≡ out.old.items ++ record_bytes edit (told_.Checkpoint epoch form schema.now next_file floor rowsets.now kept.now levels.now)) }
+    ensures { IfOk result (λ body. body.items ≡ record_bytes edit (told_.Checkpoint epoch form schema.now next_file floor rowsets.now kept.now levels.now)) }
 {
-    put_begin(alloc, out, edit, epoch, form, schema)?;
-    put_u64(out, next_file)?;
-    put_u64(out, floor)?;
-    put_listed(alloc, out, rowsets, kept, levels)
+    let mut out = Vec::new(alloc);
+    put_begin(alloc, &mut out, edit, epoch, form, schema)?;
+    put_u64(&mut out, next_file)?;
+    put_u64(&mut out, floor)?;
+    put_listed(alloc, &mut out, rowsets, kept, levels)?;
+    Ok(out)
 }
 
-/// Appends the body of a record with an edit. On Err some of its bytes may be appended.
-pub fn put_record(
-    alloc: Global,
-    out: &mut Vec<u8>,
-    edit: u64,
-    told: &Record,
-) -> Result<(), AllocError>
+/// The body of a record with an edit.
+pub fn write_record(alloc: Global, edit: u64, told: &Record) -> Result<Vec<u8>, AllocError>
     requires { RecordFits edit told.now }
-    ensures { OnOk result (out.new.items ≡ out.old.items ++ record_bytes edit told.now) }
+    ensures { IfOk result (λ body. body.items ≡ record_bytes edit told.now) }
 {
     match told {
-        Record::Create { form, schema } => put_create(alloc, out, edit, *form, schema),
+        Record::Create { form, schema } => write_create(alloc, edit, *form, schema),
         Record::Publish {
             version,
             files,
             changed,
-        } => put_publish(alloc, out, edit, *version, files, changed),
+        } => write_publish(alloc, edit, *version, files, changed),
         Record::Compact {
             version,
             replaced,
             files,
             changed,
             levels,
-        } => put_compact(
-            alloc, out, edit, *version, *replaced, files, changed, levels,
-        ),
-        Record::Floor { floor } => put_floor(alloc, out, edit, *floor),
-        Record::Levels { levels } => put_levels(alloc, out, edit, levels),
+        } => write_compact(alloc, edit, *version, *replaced, files, changed, levels),
+        Record::Floor { floor } => write_floor(alloc, edit, *floor),
+        Record::Levels { levels } => write_levels(alloc, edit, levels),
         Record::Checkpoint {
             epoch,
             form,
@@ -185,8 +176,8 @@ pub fn put_record(
             rowsets,
             kept,
             levels,
-        } => put_checkpoint(
-            alloc, out, edit, *epoch, *form, schema, *next_file, *floor, rowsets, kept, levels,
+        } => write_checkpoint(
+            alloc, edit, *epoch, *form, schema, *next_file, *floor, rowsets, kept, levels,
         ),
     }
 }

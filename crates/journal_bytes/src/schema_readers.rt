@@ -5,9 +5,8 @@ ghost use Rattle.value_bytes.specs.declared.reads.Unread.TheVariants.{NotOne};
 ghost use Rattle.pk_values.specs.Schemas.{is_kind};
 ghost use Rattle.journal_bytes.specs.Schemas.{kind as kind_field, nullable_cell};
 
-use crate::schema_writers::nullable_column;
 use column_page::{PageFault, ReadValue, read_cell};
-use pk_values::{Column, Kind, Schema, Value};
+use pk_values::{Column, Kind, Octets, Schema, Value};
 use std::alloc::Global;
 use value_bytes::{FieldReader, Unread, read_flag, read_short_text, read_times, read_u8, read_u16};
 
@@ -44,9 +43,15 @@ fn read_nullable(alloc: Global, kind: Kind, bytes: &[u8]) -> Result<(Value, &[u8
     ensures one { IfOk result (λ p. Reads (nullable_cell kind) bytes.now p.0 p.1.now) }
     ensures none { IfErr result (λ fault. fault ≡ NotOne → NotRead (nullable_cell kind) bytes.now) }
 {
-    let column = match nullable_column(alloc, kind) {
-        Ok(column) => column,
+    let name = match Octets::from_slice(alloc, &[]) {
+        Ok(name) => name,
         Err(_) => return Err(Unread::Memory),
+    };
+    let column = Column {
+        name,
+        kind,
+        nullable: true,
+        default: None,
     };
     match read_cell(alloc, &column, bytes) {
         Ok(ReadValue { value, len }) => Ok((value, &bytes[len..])),

@@ -1,27 +1,13 @@
-ghost use Rattle.std.specs.Prelude.{◌≡◌, ◌++◌, All, IfOk, OnOk};
+ghost use Rattle.std.specs.Prelude.{◌≡◌, ◌++◌, All, OnOk};
 ghost use Rattle.std.specs.List.{flat_map};
 ghost use Rattle.value_bytes.specs.Fields.{optional};
 ghost use Rattle.journal_bytes.specs.Schemas.{column as column_field, kind as kind_field, nullable_cell};
-ghost use Rattle.journal_bytes.specs.Schemas.{nullable_column as the_column};
 ghost use Rattle.journal_bytes.specs.Schemas.{schema as schema_field};
 
 use column_page::put_cell;
 use pk_values::{Column, Kind, Octets, Schema, Value};
 use std::alloc::{AllocError, Global};
 use value_bytes::{put_flag, put_short_text, put_u16};
-
-// A column of a kind that takes NULL.
-pub(crate) fn nullable_column(alloc: Global, kind: Kind) -> Result<Column, AllocError>
-    ensures { IfOk result (λ column. column ≡ the_column kind) }
-{
-    let name = Octets::from_slice(alloc, &[])?;
-    Ok(Column {
-        name,
-        kind,
-        nullable: true,
-        default: None,
-    })
-}
 
 fn put_kind(out: &mut Vec<u8>, kind: Kind) -> Result<(), AllocError>
     requires { (kind_field).fits kind }
@@ -60,7 +46,13 @@ fn put_default(
         }
         Some(value) => {
             out.push(1)?;
-            let column = nullable_column(alloc, kind)?;
+            let name = Octets::from_slice(alloc, &[])?;
+            let column = Column {
+                name,
+                kind,
+                nullable: true,
+                default: None,
+            };
             put_cell(out, &column, value)
         }
     }

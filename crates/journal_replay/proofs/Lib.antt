@@ -1,2 +1,2 @@
 pub mod LookupFacts
-pub mod Following
+pub mod StepFacts

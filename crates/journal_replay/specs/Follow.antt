@@ -9,7 +9,7 @@ use Rattle.journal_form.specs.declared.records.ListedFile.{ListedFile}
 use Rattle.journal_form.specs.Versions.{above, all_below, bound, current_number, files_fit, files_of, numbers_of}
 use Rattle.journal_form.specs.Meaning.{Standing, distinct, file_fits}
 use Rattle.journal_replay.specs.declared.replay.Replay.{Replay}
-use Rattle.journal_replay.specs.declared.spans.Span.{Span}
+use Rattle.journal_replay.specs.declared.span.Span.{Span}
 use Rattle.journal_replay.specs.Lookups.{Finds, Lookup, added, all_take, marks, span_numbers, without}
 
 abbrev pub numbers_in : List ListedFile → List ℕ
@@ -49,6 +49,15 @@ Goes false next replay = next ≡ None
 abbrev pub new_spans : List NewFile → List Span
 new_spans [] = []
 new_spans (file ∷ files) = record { first = file.file; count = length (file ∷ files) } ∷ []
+
+abbrev pub option_spans : Option Span → List Span
+option_spans None = []
+option_spans (Some span) = span ∷ []
+
+-- the number that the next file has
+abbrev pub next_number : ℕ → Option Span → ℕ
+next_number next None = next
+next_number next (Some span) = span.first + span.count
 
 abbrev pub publish_takes : Replay → ℕ → List NewFile → List DeadRows → Truth
 publish_takes r version files changed =

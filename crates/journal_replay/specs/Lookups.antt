@@ -7,7 +7,7 @@ use Rattle.journal_form.specs.declared.records.DeadRows.{DeadRows}
 use Rattle.journal_form.specs.declared.records.ListedFile.{ListedFile}
 use Rattle.journal_form.specs.Versions.{file_numbered, rise_from}
 use Rattle.journal_replay.specs.declared.current_files.CurrentFile.{CurrentFile}
-use Rattle.journal_replay.specs.declared.spans.Span.{Span}
+use Rattle.journal_replay.specs.declared.span.Span.{Span}
 
 -- which file has a number
 abbrev pub Lookup : Type 0

@@ -38,8 +38,7 @@ fn rise(rows: &[u16]) -> bool
 fn are_alive(file: &CurrentFile, rows: &[u16]) -> bool
     ensures { result ≡ list_all (row_lives file.now) rows.now }
 {
-    rows.iter()
-        .all(|row| u32::from(*row) < file.rows && !file.dead.contains(u32::from(*row)))
+    rows.iter().all(|row| u32::from(*row) < file.rows && !file.dead.contains(u32::from(*row)))
 }
 
 /// Whether these rows of a file may die now: at least one, rising, and each is alive.
@@ -60,7 +59,11 @@ fn widened(alloc: Global, rows: &[u16]) -> Result<Vec<u32>, Memory>
 }
 
 /// A file with more dead rows, which it takes.
-pub(crate) fn with_dead(alloc: Global, file: &CurrentFile, rows: &[u16]) -> Result<CurrentFile, Memory>
+pub(crate) fn with_dead(
+    alloc: Global,
+    file: &CurrentFile,
+    rows: &[u16],
+) -> Result<CurrentFile, Memory>
     requires { takes_rows file.now rows.now ≡ true }
     ensures { IfOk result (λ marked. marked ≡ dead_too rows.now file.now) }
 {

@@ -5,7 +5,7 @@ ghost use Rattle.std.specs.Ordering.{nat_cmp};
 ghost use Rattle.journal_replay.specs.Lookups.{added, all_take, counted_from, dead_in, marks, span_numbers, takes, without};
 
 use crate::current_files::{CurrentFile, is_behind, takes, with_dead};
-use crate::spans::Span;
+use crate::span::Span;
 use del_vector::DelVector;
 use dev_traits::Memory;
 use journal_form::{DeadRows, NewFile};
@@ -13,7 +13,10 @@ use std::alloc::Global;
 use std::collections::BTreeMap;
 
 /// New files come, with no dead row.
-pub(crate) fn add_files(files: &mut BTreeMap<u64, CurrentFile>, new: &[NewFile]) -> Result<(), Memory>
+pub(crate) fn add_files(
+    files: &mut BTreeMap<u64, CurrentFile>,
+    new: &[NewFile],
+) -> Result<(), Memory>
     ensures { OnOk result ((n : ℕ) → get nat_cmp files.new n ≡ added new.now (get nat_cmp files.old) n) }
 {
     let mut left = new;
@@ -29,7 +32,11 @@ pub(crate) fn add_files(files: &mut BTreeMap<u64, CurrentFile>, new: &[NewFile])
 }
 
 // Rows of one file die, where it takes them.
-fn mark_file(alloc: Global, files: &mut BTreeMap<u64, CurrentFile>, change: &DeadRows) -> Result<bool, Memory>
+fn mark_file(
+    alloc: Global,
+    files: &mut BTreeMap<u64, CurrentFile>,
+    change: &DeadRows,
+) -> Result<bool, Memory>
     ensures fits { IfOk result (λ ok. ok ≡ takes (get nat_cmp files.old change.now.file) change.now.rows) }
     ensures marked { IfOk result (λ ok. ok ≡ true → (n : ℕ) → get nat_cmp files.new n
         ≡ dead_in change.now (get nat_cmp files.old) n) }
@@ -48,7 +55,11 @@ fn mark_file(alloc: Global, files: &mut BTreeMap<u64, CurrentFile>, change: &Dea
 }
 
 /// Changed rows die, where the files have rising numbers and each takes its rows.
-pub(crate) fn mark_all(alloc: Global, files: &mut BTreeMap<u64, CurrentFile>, changed: &[DeadRows]) -> Result<bool, Memory>
+pub(crate) fn mark_all(
+    alloc: Global,
+    files: &mut BTreeMap<u64, CurrentFile>,
+    changed: &[DeadRows],
+) -> Result<bool, Memory>
     ensures fits { IfOk result (λ ok. ok ≡ all_take 0 (get nat_cmp files.old) changed.now) }
     ensures marked { IfOk result (λ ok. ok ≡ true → (n : ℕ) → get nat_cmp files.new n
         ≡ marks changed.now (get nat_cmp files.old) n) }

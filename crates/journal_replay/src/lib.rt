@@ -4,10 +4,12 @@
 
 mod current_files;
 mod file_maps;
+mod following;
 mod new_files;
 mod replay;
+mod span;
 mod spans;
 
 pub use current_files::CurrentFile;
 pub use replay::Replay;
-pub use spans::Span;
+pub use span::Span;

@@ -1,8 +1,8 @@
-ghost use Rattle.std.specs.Prelude.{◌≡◌, ◌&&◌, ◌-◌, ◌+◌, ◌^◌, ◌<◌, true};
+ghost use Rattle.std.specs.Prelude.{◌≡◌, ◌&&◌, ◌-◌, ◌^◌, ◌<◌, true};
 ghost use Rattle.journal_form.specs.Versions.{above, all_below, bound, consecutive, files_fit, numbers_of};
-ghost use Rattle.journal_replay.specs.Follow.{new_spans};
+ghost use Rattle.journal_replay.specs.Follow.{new_spans, next_number, option_spans};
 
-use crate::spans::Span;
+use crate::span::Span;
 use journal_form::NewFile;
 
 /// A new file's number is below this one, 2^63 - 1: one is left for the first index file.
@@ -38,8 +38,8 @@ pub(crate) fn are_new(next: u64, files: &[NewFile]) -> bool
 /// New files as a rowset; no file makes none.
 pub(crate) fn span_of(next: u64, files: &[NewFile]) -> Option<Span>
     requires { files_fit next (bound - 1) files.now ≡ true }
-    ensures span { MatchOption result (new_spans files.now ≡ []) (λ span. new_spans files.now ≡ span ∷ []) }
-    ensures above { MatchOption result (above next (numbers_of files.now) ≡ next) (λ span. above next (numbers_of files.now) ≡ span.first + span.count) }
+    ensures span { option_spans result ≡ new_spans files.now }
+    ensures above { next_number next result ≡ above next (numbers_of files.now) }
 {
     match files {
         [] => None,

@@ -19,7 +19,7 @@ use Rattle.journal_form.proofs.Parts.{then_some}
 use Rattle.journal_form.proofs.Numbers.{all_from, below_more, distinct_end}
 use Rattle.journal_form.proofs.GoodFiles.{AreGood, compacted_good, consecutive-from, files_of-append, files_of-marked, files_of-new, good_drop, marked_good, numbers, numbers-append, numbers-marked, published_good}
 use Rattle.journal_replay.specs.declared.replay.Replay.{Replay}
-use Rattle.journal_replay.specs.declared.spans.Span.{Span}
+use Rattle.journal_replay.specs.declared.span.Span.{Span}
 use Rattle.journal_replay.specs.Lookups.{Finds, Lookup, added, all_take, counted_from, listed_as, marks, span_numbers, without}
 use Rattle.journal_replay.specs.Follow.{Follows, HasCompacted, HasCurrent, HasPublished, Moves, compact_takes, files_left, new_spans, numbers_in, publish_takes}
 use Rattle.journal_replay.proofs.LookupFacts.{added_finds, all_take_is, finds_ext, finds_swap, marks_find, without_finds}
@@ -220,7 +220,7 @@ compact_same r s edit version replaced files changed has small =
     and_same (files_fit s.versions.next_file (bound - 1) files) _ _ (λ h. all_take_is (added files (files_left r replaced)) (files_of (compacted_rowsets replaced files all)) changed (other_files r s replaced files has h) ∙ sym (and_true (changes_fit 0 (files_of (compacted_rowsets replaced files all)) changed))) in
     (λ i. (version == has.current i) && (nat_le replaced (rowsets_count all r.rowsets.items has.rowsets i) && (files_fit (has.next_file i) (bound - 1) files && all_take 0 (added files (files_left r replaced)) changed)))
     ∙ and_same (version == current_number s.versions) _ _ (λ h. let e = eqb-true version (current_number s.versions) h in let now = has.current in
-        ap (λ (b : Bool). nat_le replaced (length all) && b) rest ∙ ap (λ (b : Bool). b && (nat_le replaced (length all) && (files_fit s.versions.next_file (bound - 1) files && (changes_fit 0 (files_of (compacted_rowsets replaced files all)) changed && true)))) (sym (lt-ltb version bound (omega arith))))
+    ap (λ (b : Bool). nat_le replaced (length all) && b) rest ∙ ap (λ (b : Bool). b && (nat_le replaced (length all) && (files_fit s.versions.next_file (bound - 1) files && (changes_fit 0 (files_of (compacted_rowsets replaced files all)) changed && true)))) (sym (lt-ltb version bound (omega arith))))
     ∙ ap (λ (m : ℕ). compact_fits m s.versions edit version replaced files changed None) (sym (most_is r s has))
   where
     and_true : (b : Bool) → (b && true) ≡ b
@@ -276,9 +276,11 @@ compacted_has edit old new s version replaced files changed has small h made =
 
 pub compact_moves : (edit : ℕ) (ok : Bool) (old new : Replay) (s : Standing) (version replaced : ℕ) (files : List NewFile) (changed : List DeadRows) → HasCurrent old s → old.current < bound
     → ok ≡ compact_takes old version replaced files changed → (ok ≡ true → HasCompacted replaced files changed old new) → Moves ok (step_at edit s (Compact version replaced files changed None)) new
-compact_moves edit true old new s version replaced files changed has small e made =
-    (compact_step edit s version replaced files changed, compact_when edit s version replaced files changed true (sym (e ∙ compact_same old s edit version replaced files changed has small)),
-    compacted_has edit old new s version replaced files changed has small (sym e) (made refl))
+compact_moves edit true old new s version replaced files changed has small e made = (
+  compact_step edit s version replaced files changed,
+  compact_when edit s version replaced files changed true (sym (e ∙ compact_same old s edit version replaced files changed has small)),
+  compacted_has edit old new s version replaced files changed has small (sym e) (made refl),
+)
 compact_moves edit false old new s version replaced files changed has small e made = compact_when edit s version replaced files changed false (sym (e ∙ compact_same old s edit version replaced files changed has small))
 
 -- ---- a raised floor
@@ -313,19 +315,22 @@ floor_moves edit true old new s floor has small e made =
     let above_ = ltb-true s.versions.floor floor a.0 in
     let within = leb-true floor (current_number s.versions) b.0 in
     let now = m.current in
-    let was = has.current in
-    (floor_step edit s floor, ap (λ (t : Bool). if t then Some (floor_step edit s floor) else None) fits, record {
-      form = has.form;
-      levels = has.levels;
-      floor = m.floor_now;
-      current = omega (arith, length-drop (floor - s.versions.floor) s.versions.older);
-      next_file = m.next_file ∙ has.next_file;
-      rowsets = has.rowsets ∙ ap (λ (t : List Span). map span_numbers t) (sym m.rowsets);
-      files = finds_ext (get nat_cmp old.files) (get nat_cmp new.files) (files_of s.versions.current.rowsets) m.files has.files;
-      once = has.once;
-      fit = has.fit;
-      below = has.below;
-    })
+    let was = has.current in (
+      floor_step edit s floor,
+      ap (λ (t : Bool). if t then Some (floor_step edit s floor) else None) fits,
+      record {
+        form = has.form;
+        levels = has.levels;
+        floor = m.floor_now;
+        current = omega (arith, length-drop (floor - s.versions.floor) s.versions.older);
+        next_file = m.next_file ∙ has.next_file;
+        rowsets = has.rowsets ∙ ap (λ (t : List Span). map span_numbers t) (sym m.rowsets);
+        files = finds_ext (get nat_cmp old.files) (get nat_cmp new.files) (files_of s.versions.current.rowsets) m.files has.files;
+        once = has.once;
+        fit = has.fit;
+        below = has.below;
+      },
+    )
 floor_moves edit false old new s floor has small e made =
     ap (λ (t : Bool). if t then Some (floor_step edit s floor) else None) (sym (e ∙ floor_same old s floor has small))
 
