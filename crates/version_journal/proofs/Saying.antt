@@ -51,7 +51,7 @@ at_first form schema t h =
 pub due_first : (body : List ℕ) (t : Standing) → IsDue body None t → AtFirst t
 due_first body t due = let b = begun_is due.told t due.joins in at_first b.form b.schema t b.opened
 
-one_apart : 1 ≢ 0
+one_apart : ◌≢◌ {A = ℕ} 1 0
 one_apart e = absurd (omega arith)
 
 still_none : (old new : Image) → HasNoRecord old → Elsewhere 0 old new → HasNone (area_of new 0) → HasNoRecord new
@@ -97,17 +97,23 @@ later_said : (old new : Image) (bodies : List (List ℕ)) (body : List ℕ) (s t
 later_said old new bodies body s t said log due elsewhere is =
     let same : said.meant.log ≡ bodies = one_log said.meant.log bodies (area_of old (area_of_epoch s.epoch)) said.meant.is_log log in
     let is' : IsLog (bodies ++ record_bytes (s.edit + 1) due.told ∷ []) (area_of new (area_of_epoch s.epoch)) = subst (λ (b : List ℕ). IsLog (bodies ++ b ∷ []) (area_of new (area_of_epoch s.epoch))) due.spelled is in
+    let m = appended old new bodies s t due.told said.meant log due.fits due.joins elsewhere is' in
+    let epoch : t.epoch ≡ s.epoch = (steps_count s t due.told due.joins).epoch in
+    let now : m.log ≡ bodies ++ record_bytes (s.edit + 1) due.told ∷ [] =
+    one_log m.log (bodies ++ record_bytes (s.edit + 1) due.told ∷ []) (area_of new (area_of_epoch s.epoch)) (subst (λ (e : ℕ). IsLog m.log (area_of new (area_of_epoch e))) epoch m.is_log) is' in
     record {
-      meant = appended old new bodies s t due.told said.meant log due.fits due.joins elsewhere is';
-      built = all_push bodies (record_bytes (s.edit + 1) due.told) (subst (AllByRecursion IsBuilt) same said.built)
-          (record { edit = s.edit + 1; told = due.told; fits = due.fits; spelled = refl; built = due.built });
+      meant = m;
+      built = subst (AllByRecursion IsBuilt) (sym now) (all_push bodies (record_bytes (s.edit + 1) due.told) (subst (AllByRecursion IsBuilt) same said.built)
+          (record { edit = s.edit + 1; told = due.told; fits = due.fits; spelled = refl; built = due.built }));
     }
 
 still_said : (old new : Image) (bodies : List (List ℕ)) (s : Standing) → IsSaid old s → IsLog bodies (area_of old (area_of_epoch s.epoch)) → Elsewhere (area_of_epoch s.epoch) old new
     → IsLog bodies (area_of new (area_of_epoch s.epoch)) → IsSaid new s
 still_said old new bodies s said log elsewhere is =
     let same : said.meant.log ≡ bodies = one_log said.meant.log bodies (area_of old (area_of_epoch s.epoch)) said.meant.is_log log in
-    record { meant = not_yet old new bodies s said.meant log elsewhere is; built = subst (AllByRecursion IsBuilt) same said.built }
+    let m = not_yet old new bodies s said.meant log elsewhere is in
+    let now : m.log ≡ bodies = one_log m.log bodies (area_of new (area_of_epoch s.epoch)) m.is_log is in
+    record { meant = m; built = subst (AllByRecursion IsBuilt) (same ∙ sym now) said.built }
 
 -- ---- either one
 

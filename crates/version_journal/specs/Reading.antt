@@ -1,5 +1,5 @@
 -- What is read of a journal.
-use Rattle.std.specs.Prelude.{◌≡◌, ◌≢◌, ◌⊎◌, ℕ, ◌+◌, List, [], ◌∷◌, Bool as Truth, true, false, Option, Some, IsTrue}
+use Rattle.std.specs.Prelude.{◌≡◌, ◌≢◌, ◌⊎◌, ℕ, ◌+◌, List, [], ◌∷◌, suc, zero, Bool as Truth, true, false, Option, Some, IsTrue}
 use Rattle.std.specs.List.{AllByRecursion}
 use Rattle.dev_traits.specs.Image.{Image, area_of}
 use Rattle.dev_traits.specs.declared.faults.Damaged.{Damaged}
@@ -21,7 +21,7 @@ pub record IsReplayed (bodies : List (List ℕ)) (records : List Record) (edits 
   pub built : AllByRecursion IsBuilt bodies
   pub told : records_mean records ≡ Some s
   pub epoch : s.epoch ≡ 0
-  pub edits : edits ≡ s.edit + 1
+  pub count : edits ≡ s.edit + 1
 
 -- bodies that mean nothing, as far as records are read as yet
 abbrev pub MeanNothing : List (List ℕ) → Type 0
