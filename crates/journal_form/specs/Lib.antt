@@ -1,0 +1,4 @@
+pub mod Versions
+pub mod Meaning
+pub mod Standings
+pub mod Laws

@@ -1,0 +1,2 @@
+pub mod LookupFacts
+pub mod StepFacts

@@ -1,0 +1,88 @@
+-- A replay follows records: it has what the next record is held against.
+use Rattle.std.specs.Prelude.{◌≡◌, ℕ, ◌+◌, ◌-◌, List, [], ◌∷◌, ◌++◌, length, map, take, drop, Bool as Truth, true, false, ◌&&◌, ◌==◌, nat_lt, nat_le, Option, Some, None}
+use Rattle.std.specs.List.{flat_map, list_all}
+use Rattle.std.specs.BTreeMap.{get}
+use Rattle.std.specs.Ordering.{nat_cmp}
+use Rattle.journal_form.specs.declared.records.NewFile.{NewFile}
+use Rattle.journal_form.specs.declared.records.DeadRows.{DeadRows}
+use Rattle.journal_form.specs.declared.records.ListedFile.{ListedFile}
+use Rattle.journal_form.specs.Versions.{above, all_below, bound, current_number, files_fit, files_of, numbers_of}
+use Rattle.journal_form.specs.Meaning.{Standing, distinct, file_fits}
+use Rattle.journal_replay.specs.declared.replay.Replay.{Replay}
+use Rattle.journal_replay.specs.declared.span.Span.{Span}
+use Rattle.journal_replay.specs.Lookups.{Finds, Lookup, added, all_take, marks, span_numbers, without}
+
+abbrev pub numbers_in : List ListedFile → List ℕ
+numbers_in files = map (λ f. f.file) files
+
+-- the replay has the versions' numbers and the files of the current version, which stand for a journal of form 1 without index files
+pub record HasCurrent (replay : Replay) (s : Standing) : Type 0 where
+  pub form : s.form ≡ 1
+  pub levels : s.levels ≡ None
+  pub floor : replay.floor ≡ s.versions.floor
+  pub current : replay.current ≡ current_number s.versions
+  pub next_file : replay.next_file ≡ s.versions.next_file
+  pub rowsets : map numbers_in s.versions.current.rowsets ≡ map span_numbers replay.rowsets.items
+  pub files : Finds (get nat_cmp replay.files) (files_of s.versions.current.rowsets)
+  pub once : distinct (numbers_in (files_of s.versions.current.rowsets)) ≡ true
+  pub fit : list_all file_fits (files_of s.versions.current.rowsets) ≡ true
+  pub below : all_below s.versions.next_file (numbers_in (files_of s.versions.current.rowsets)) ≡ true
+
+-- What was replayed means this.
+pub record Follows (replay : Replay) (s : Standing) : Type 0 where
+  pub edit : replay.edit ≡ s.edit
+  pub has : HasCurrent replay s
+
+-- the step is one after which the replay has what is current, or it is none
+abbrev pub Moves : Truth → Option Standing → Replay → Type 0
+Moves true next replay = (t : Standing) × (next ≡ Some t) × HasCurrent replay t
+Moves false next replay = next ≡ None
+
+-- the step is one that the replay has made, or it is none
+abbrev pub Goes : Truth → Option Standing → Replay → Type 0
+Goes true next replay = (t : Standing) × (next ≡ Some t) × Follows replay t
+Goes false next replay = next ≡ None
+
+-- ---- by the replay's own fields
+
+-- new files as a rowset, but no file is none
+abbrev pub new_spans : List NewFile → List Span
+new_spans [] = []
+new_spans (file ∷ files) = record { first = file.file; count = length (file ∷ files) } ∷ []
+
+abbrev pub option_spans : Option Span → List Span
+option_spans None = []
+option_spans (Some span) = span ∷ []
+
+-- the number that the next file has
+abbrev pub next_number : ℕ → Option Span → ℕ
+next_number next None = next
+next_number next (Some span) = span.first + span.count
+
+abbrev pub publish_takes : Replay → ℕ → List NewFile → List DeadRows → Truth
+publish_takes r version files changed =
+    (version == r.current + 1) && (nat_lt version bound && (nat_lt ((r.current - r.floor) + 1) 1000
+    && (files_fit r.next_file (bound - 1) files && all_take 0 (added files (get nat_cmp r.files)) changed)))
+
+pub record HasPublished (version : ℕ) (files : List NewFile) (changed : List DeadRows) (old new : Replay) : Type 0 where
+  pub floor : new.floor ≡ old.floor
+  pub current : new.current ≡ version
+  pub next_file : new.next_file ≡ above old.next_file (numbers_of files)
+  pub rowsets : new.rowsets.items ≡ old.rowsets.items ++ new_spans files
+  pub files : (n : ℕ) → get nat_cmp new.files n ≡ marks changed (added files (get nat_cmp old.files)) n
+
+-- the files of all but the first rowsets
+abbrev pub files_left : Replay → ℕ → Lookup
+files_left r replaced = without (flat_map span_numbers (take replaced r.rowsets.items)) (get nat_cmp r.files)
+
+abbrev pub compact_takes : Replay → ℕ → ℕ → List NewFile → List DeadRows → Truth
+compact_takes r version replaced files changed =
+    (version == r.current) && (nat_le replaced (length r.rowsets.items)
+    && (files_fit r.next_file (bound - 1) files && all_take 0 (added files (files_left r replaced)) changed))
+
+pub record HasCompacted (replaced : ℕ) (files : List NewFile) (changed : List DeadRows) (old new : Replay) : Type 0 where
+  pub floor : new.floor ≡ old.floor
+  pub current : new.current ≡ old.current
+  pub next_file : new.next_file ≡ above old.next_file (numbers_of files)
+  pub rowsets : new.rowsets.items ≡ new_spans files ++ drop replaced old.rowsets.items
+  pub files : (n : ℕ) → get nat_cmp new.files n ≡ marks changed (added files (files_left old replaced)) n
