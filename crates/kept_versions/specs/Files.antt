@@ -1,5 +1,5 @@
 -- The files of a version: which of their rows are live.
-use Rattle.std.specs.Prelude.{◌≡◌, ◌⊎◌, ℕ, ◌+◌, ◌-◌, ◌<◌, ⊤, List, [], ◌∷◌, length, Option, Some, None, Bool as Truth, false, ◌&&◌, not, nat_lt, ◌==◌}
+use Rattle.std.specs.Prelude.{◌≡◌, ◌⊎◌, ℕ, ◌+◌, ◌-◌, ◌<◌, ⊤, List, [], ◌∷◌, length, map, sum, Option, Some, None, Bool as Truth, false, ◌&&◌, not, nat_lt, ◌==◌}
 use Rattle.std.specs.List.{list_any}
 use Rattle.index_level0.specs.declared.place.Place.{Place}
 use Rattle.journal_form.specs.declared.records.ListedFile.{ListedFile}
@@ -20,8 +20,7 @@ can_die rowsets p = nat_lt p.row 65536 && is_live rowsets p
 
 -- how many rows files have, less the dead ones
 abbrev pub alive : List ListedFile → ℕ
-alive [] = 0
-alive (f ∷ files) = f.rows - length f.dead + alive files
+alive files = sum (map (λ f. f.rows - length f.dead) files)
 
 -- the place of an earlier file, or of an earlier row of one file
 abbrev pub place_below : Place → Place → Type 0

@@ -85,7 +85,7 @@ impl KeyIndex {
     }
 
     fn remove(&mut self, key: &KeyBytes)
-        ensures map { self.new.map ≡ map.remove key.now self.old.map }
+        ensures map { self.new.map ≡ map.remove self.old.map key.now }
         ensures spare { self.old.spare ≤ self.new.spare }
     {
         self.places.remove(key);

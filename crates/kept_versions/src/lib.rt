@@ -2,6 +2,17 @@
 //! with their dead rows. A change makes the next version, which shares what it doesn't change.
 #![tactic(auto)]
 
+mod groups;
+mod kept_file;
+mod kept_version;
 mod key_index;
+mod laws;
+mod lookups;
+mod marking;
+mod publications;
 
+pub use kept_file::KeptFile;
+pub use kept_version::KeptVersion;
 pub use key_index::KeyIndex;
+pub use laws::publication_steps;
+pub use publications::{ChangeFault, Published, publish_change};
