@@ -2,12 +2,12 @@
 use Rattle.std.proofs.Common.{◌≡◌, refl, ap, sym, subst, ◌∙◌, ℕ, zero, suc, ◌+◌, ◌<◌, ◌≤◌, arith, List, [], ◌∷◌, ◌++◌, append_assoc, map, length, drop, get_or, slice_set, Option, Some, None, is_some, Bool, true, false, ◌&&◌, ◌||◌, not, ◌==◌, if◌then◌else◌, cond}
 use Rattle.std.specs.List.{find, list_all, list_any, AllByRecursion}
 use Rattle.std.proofs.lemmas.Bool.{eqb-true, eqb-false, ne_eqb, eq-eqb}
-use Rattle.std.proofs.lemmas.List.{length-map}
+use Rattle.std.proofs.lemmas.List.{get_or-map, length-map}
 use Rattle.std.proofs.lemmas.List.Folds.{list_all-append}
 use Rattle.index_level0.specs.declared.place.Place.{Place}
 use Rattle.rowsets.specs.Marks.{Rises}
 use Rattle.rowsets.proofs.MarkFacts.{not_behind}
-use Rattle.del_vector.proofs.DeadFacts.{rise_between}
+use Rattle.del_vector.proofs.DeadFacts.{before_middle, behind_middle, found, not_one, rise_between}
 use Rattle.journal_form.specs.declared.records.DeadRows.{DeadRows}
 use Rattle.journal_form.specs.declared.records.ListedFile.{ListedFile}
 use Rattle.journal_form.specs.Versions.{Rowset, file_numbered, files_of, rows_changed}
@@ -29,6 +29,39 @@ neither false b h = (refl, h)
 
 turned : (m n : ℕ) → (m == n) ≡ false → (n == m) ≡ false
 turned m n h = ne_eqb n m (λ e. eqb-false m n h (sym e))
+
+abbrev file_of : DeadRows → ℕ
+file_of c = c.file
+
+-- ---- a search among the changed files
+
+number_at : (cs : List DeadRows) (i : ℕ) (d : DeadRows) → i < length cs → get_or (changed_numbers cs) i 0 ≡ (get_or cs i d).file
+number_at cs i d lt = get_or-map file_of cs i d 0 lt
+
+pub before_here : (cs : List DeadRows) (n m : ℕ) (c : DeadRows) → Rises (changed_numbers cs) → m < length cs → (get_or cs m c).file < n → (k d : ℕ) → 0 ≤ k → k < m + 1 → get_or (changed_numbers cs) k d < n
+before_here cs n m c h lt below =
+    let len = length-map cs file_of in
+    let here = number_at cs m c lt in
+    before_middle (changed_numbers cs) n m h (omega arith) (omega arith)
+
+pub behind_here : (cs : List DeadRows) (n m : ℕ) (c : DeadRows) → Rises (changed_numbers cs) → m < length cs → n ≤ (get_or cs m c).file → (k d : ℕ) → m ≤ k → k < length cs → n ≤ get_or (changed_numbers cs) k d
+behind_here cs n m c h lt le k d from to =
+    let len = length-map cs file_of in
+    let here = number_at cs m c lt in
+    behind_middle (changed_numbers cs) n m h (omega arith) k d from (omega arith)
+
+pub other_here : (cs : List DeadRows) (n place : ℕ) (c : DeadRows) → Rises (changed_numbers cs) → place < length cs → ((get_or cs place c).file == n) ≡ false
+    → ((k d : ℕ) → 0 ≤ k → k < place → get_or (changed_numbers cs) k d < n) → ((k d : ℕ) → place ≤ k → k < length cs → n ≤ get_or (changed_numbers cs) k d)
+    → list_any (λ m. m == n) (changed_numbers cs) ≡ false
+other_here cs n place c h lt other before behind =
+    let len = length-map cs file_of in
+    sym (found (changed_numbers cs) n place h (omega arith) before (λ k d from to. behind k d from (omega arith)))
+    ∙ ap (λ (m : ℕ). m == n) (number_at cs place c lt) ∙ other
+
+pub none_here : (cs : List DeadRows) (n place : ℕ) → length cs ≤ place → ((k d : ℕ) → 0 ≤ k → k < place → get_or (changed_numbers cs) k d < n) → list_any (λ m. m == n) (changed_numbers cs) ≡ false
+none_here cs n place le before =
+    let len = length-map cs file_of in
+    not_one (changed_numbers cs) n (λ k lt same. let below = before k 0 (omega arith) (omega arith) in omega arith)
 
 -- ---- a number that isn't changed, and one that is
 
@@ -211,10 +244,67 @@ lives-append (x ∷ xs) ys cs bs =
     ap (λ (t : Bool). lives_at x cs bs && t) (lives-append xs ys cs (noted x.file cs bs))
     ∙ and_assoc (lives_at x cs bs) (lives_all xs cs (noted x.file cs bs)) (lives_all ys cs (noted_all xs cs (noted x.file cs bs)))
 
-pub files_left : (rowsets : List Rowset) (i : ℕ) (d : Rowset) → i < length rowsets → files_of (drop i rowsets) ≡ get_or rowsets i d ++ files_of (drop (i + 1) rowsets)
-files_left [] i d lt = absurd (omega arith)
-files_left (r ∷ rs) zero d lt = refl
-files_left (r ∷ rs) (suc i) d lt = let e : suc (i + 1) ≡ suc i + 1 = omega arith in files_left rs i d (omega arith) ∙ ap (λ (m : ℕ). get_or rs i d ++ files_of (drop m (r ∷ rs))) e
+pub files_left : (rowsets : List Rowset) (i : ℕ) (x : Rowset) → i < length rowsets → x ≡ get_or rowsets i x → files_of (drop i rowsets) ≡ x ++ files_of (drop (i + 1) rowsets)
+files_left [] i x lt e = absurd (omega arith)
+files_left (r ∷ rs) zero x lt e = ap (λ (fs : Rowset). fs ++ files_of rs) (sym e)
+files_left (r ∷ rs) (suc i) x lt e = let next : suc (i + 1) ≡ suc i + 1 = omega arith in files_left rs i x (omega arith) e ∙ ap (λ (m : ℕ). x ++ files_of (drop m (r ∷ rs))) next
+
+-- ---- a turn of the loop over files, and over rowsets
+
+pub cut : (files : List ListedFile) (i : ℕ) (x : ListedFile) → i < length files → x ≡ get_or files i x → drop i files ≡ x ∷ drop (i + 1) files
+cut [] i x lt e = absurd (omega arith)
+cut (f ∷ files) zero x lt e = ap (λ (g : ListedFile). g ∷ files) (sym e)
+cut (f ∷ files) (suc i) x lt e = let next : suc (i + 1) ≡ suc i + 1 = omega arith in cut files i x (omega arith) e ∙ ap (λ (m : ℕ). x ∷ drop m (f ∷ files)) next
+
+pub note_lives : (left rest : List ListedFile) (cs : List DeadRows) (bs next : List Bool) (x : ListedFile) (live joined lives whole : Bool)
+    → left ≡ x ∷ rest → next ≡ noted x.file cs bs → lives ≡ lives_at x cs bs → joined ≡ (live && lives) → (live && lives_all left cs bs) ≡ whole → (joined && lives_all rest cs next) ≡ whole
+note_lives left rest cs bs next x live joined lives whole split is here both h =
+    ap (λ (b : Bool). b && lives_all rest cs next) (both ∙ ap (λ (b : Bool). live && b) here)
+    ∙ ap (λ (ts : List Bool). (live && lives_at x cs bs) && lives_all rest cs ts) is
+    ∙ sym (and_assoc live (lives_at x cs bs) (lives_all rest cs (noted x.file cs bs)))
+    ∙ ap (λ (fs : List ListedFile). live && lives_all fs cs bs) (sym split) ∙ h
+
+pub note_found : (left rest : List ListedFile) (cs : List DeadRows) (bs next whole : List Bool) (x : ListedFile)
+    → left ≡ x ∷ rest → next ≡ noted x.file cs bs → noted_all left cs bs ≡ whole → noted_all rest cs next ≡ whole
+note_found left rest cs bs next whole x split is h = ap (noted_all rest cs) is ∙ ap (λ (fs : List ListedFile). noted_all fs cs bs) (sym split) ∙ h
+
+pub rowset_lives : (left rest files : List ListedFile) (cs : List DeadRows) (bs next : List Bool) (live joined lives whole : Bool)
+    → left ≡ files ++ rest → next ≡ noted_all files cs bs → lives ≡ lives_all files cs bs → joined ≡ (live && lives) → (live && lives_all left cs bs) ≡ whole → (joined && lives_all rest cs next) ≡ whole
+rowset_lives left rest files cs bs next live joined lives whole split is here both h =
+    ap (λ (b : Bool). b && lives_all rest cs next) (both ∙ ap (λ (b : Bool). live && b) here)
+    ∙ ap (λ (ts : List Bool). (live && lives_all files cs bs) && lives_all rest cs ts) is
+    ∙ sym (and_assoc live (lives_all files cs bs) (lives_all rest cs (noted_all files cs bs)))
+    ∙ ap (λ (b : Bool). live && b) (sym (lives-append files rest cs bs))
+    ∙ ap (λ (fs : List ListedFile). live && lives_all fs cs bs) (sym split) ∙ h
+
+pub rowset_found : (left rest files : List ListedFile) (cs : List DeadRows) (bs next whole : List Bool)
+    → left ≡ files ++ rest → next ≡ noted_all files cs bs → noted_all left cs bs ≡ whole → noted_all rest cs next ≡ whole
+rowset_found left rest files cs bs next whole split is h =
+    ap (noted_all rest cs) is ∙ sym (noted-append files rest cs bs) ∙ ap (λ (fs : List ListedFile). noted_all fs cs bs) (sym split) ∙ h
+
+-- ---- a file among rowsets
+
+pub numbered_here : (n : ℕ) (files rest left : List ListedFile) (f : ListedFile) → left ≡ files ++ rest → file_numbered n files ≡ Some f → file_numbered n left ≡ Some f
+numbered_here n files rest left f split h = ap (file_numbered n) split ∙ go files h
+  where
+    go : (xs : List ListedFile) → file_numbered n xs ≡ Some f → file_numbered n (xs ++ rest) ≡ Some f
+    go [] h = cc
+    go (x ∷ xs) h = by (x.file == n) h (go xs)
+      where
+        by : (b : Bool) → cond b (Some x) (file_numbered n xs) ≡ Some f → (file_numbered n xs ≡ Some f → file_numbered n (xs ++ rest) ≡ Some f) → cond b (Some x) (file_numbered n (xs ++ rest)) ≡ Some f
+        by true h more = h
+        by false h more = more h
+
+pub numbered_behind : (n : ℕ) (files rest left : List ListedFile) → left ≡ files ++ rest → file_numbered n files ≡ None → file_numbered n left ≡ file_numbered n rest
+numbered_behind n files rest left split h = ap (file_numbered n) split ∙ go files h
+  where
+    go : (xs : List ListedFile) → file_numbered n xs ≡ None → file_numbered n (xs ++ rest) ≡ file_numbered n rest
+    go [] h = refl
+    go (x ∷ xs) h = by (x.file == n) h (go xs)
+      where
+        by : (b : Bool) → cond b (Some x) (file_numbered n xs) ≡ None → (file_numbered n xs ≡ None → file_numbered n (xs ++ rest) ≡ file_numbered n rest) → cond b (Some x) (file_numbered n (xs ++ rest)) ≡ file_numbered n rest
+        by true h more = cc
+        by false h more = more h
 
 -- ---- all changed files were found, with their changed rows live, exactly where each changed row is a live one
 
