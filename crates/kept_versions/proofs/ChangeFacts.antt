@@ -1,18 +1,22 @@
 -- Changed rows that are live fit a record, and what a record that fits says of its changed rows.
-use Rattle.std.proofs.Common.{◌≡◌, refl, ap, sym, ◌∙◌, ℕ, ◌+◌, ◌<◌, ◌≤◌, arith, List, [], ◌∷◌, ◌++◌, append_assoc, append-nil, map, length, Option, Some, None, Bool, true, false, ◌&&◌, ◌||◌, not, nat_lt, nat_le, ◌==◌}
+use Rattle.std.proofs.Common.{◌≡◌, refl, ap, sym, subst, ◌∙◌, ℕ, zero, suc, ◌+◌, ◌-◌, ◌^◌, ◌<◌, ◌≤◌, arith, List, [], ◌∷◌, ◌++◌, append_assoc, append-nil, map, length, get_or, replicate, Option, Some, None, Bool, true, false, ◌&&◌, ◌||◌, not, nat_lt, nat_le, ◌==◌}
 use Rattle.std.specs.List.{list_all, list_any, AllByRecursion}
+use Rattle.std.specs.Prelude.{fold, sum}
 use Rattle.std.proofs.lemmas.Bool.{and_parts, and_from, leb-true, le-leb}
+use Rattle.std.proofs.lemmas.List.{map-append}
 use Rattle.std.proofs.lemmas.List.Folds.{list_all-append}
 use Rattle.index_level0.specs.declared.place.Place.{Place}
 use Rattle.rowsets.specs.Marks.{Rises}
+use Rattle.del_vector.proofs.DeadFacts.{few_rows}
 use Rattle.journal_form.specs.declared.records.NewFile.{NewFile}
 use Rattle.journal_form.specs.declared.records.DeadRows.{DeadRows}
 use Rattle.journal_form.specs.declared.records.ListedFile.{ListedFile}
-use Rattle.journal_form.specs.Versions.{Rowset, all_below, changes_fit, file_numbered, files_of, new_rowset, published_rowsets, rise_from, rows_fit, whole_file}
-use Rattle.kept_versions.specs.Files.{can_die, is_live, row_lives}
-use Rattle.kept_versions.specs.Changes.{places_of_changes}
-use Rattle.kept_versions.specs.Marking.{RowsRise, are_small, changed_numbers, rows_live}
-use Rattle.kept_versions.proofs.GroupFacts.{Shaped}
+use Rattle.journal_form.specs.Versions.{Rowset, all_below, changes_fit, file_numbered, files_of, marked, marked_file, new_rowset, published_rowsets, rise_from, rows_fit, whole_file}
+use Rattle.kept_versions.specs.Files.{PlacesRise, alive, can_die, is_live, row_lives}
+use Rattle.kept_versions.specs.Changes.{AreInRange, RowsInRange, places_of_changes}
+use Rattle.kept_versions.specs.Marking.{RowsRise, are_small, changed_numbers, grouped, lives_all, noted_all, rows_live}
+use Rattle.kept_versions.proofs.GroupFacts.{Shaped, SmallRows, places_grouped, shaped_grouped, small_grouped}
+use Rattle.kept_versions.proofs.FindFacts.{all_are_live, all_found, all_lives, found_in, lives_in}
 
 -- ---- rising numbers
 
@@ -128,6 +132,27 @@ some_cannot rowsets (p ∷ ps) h = go (nat_lt p.row 65536) h (some_cannot rowset
     go true h more = ap (λ (t : Bool). is_live rowsets p && t) (more h) ∙ none (is_live rowsets p)
     go false h more = refl
 
+-- ---- sums over rowsets
+
+fold_from : (a : ℕ) (ns : List ℕ) → fold (λ (a n : ℕ). a + n) a ns ≡ a + fold (λ (a n : ℕ). a + n) 0 ns
+fold_from a [] = omega arith
+fold_from a (n ∷ ns) = let more = fold_from (a + n) ns in let one = fold_from (0 + n) ns in more ∙ omega arith
+
+sum_cons : (n : ℕ) (ns : List ℕ) → sum (n ∷ ns) ≡ n + sum ns
+sum_cons n ns = let one = fold_from (0 + n) ns in one ∙ omega arith
+
+alive_both : (xs ys : List ListedFile) → alive (xs ++ ys) ≡ alive xs + alive ys
+alive_both [] ys = omega arith
+alive_both (x ∷ xs) ys =
+    let n = x.rows - length x.dead in
+    let more = alive_both xs ys in
+    sum_cons n (map (λ f. f.rows - length f.dead) (xs ++ ys)) ∙ (let one = sum_cons n (map (λ f. f.rows - length f.dead) xs) in omega (arith, more, one))
+
+pub alive_files : (rowsets : List Rowset) → sum (map alive rowsets) ≡ alive (files_of rowsets)
+alive_files [] = refl
+alive_files (files ∷ rowsets) =
+    sum_cons (alive files) (map alive rowsets) ∙ ap (λ (n : ℕ). alive files + n) (alive_files rowsets) ∙ sym (alive_both files (files_of rowsets))
+
 -- ---- the files of the next version
 
 files_of-append : (xs ys : List Rowset) → files_of (xs ++ ys) ≡ files_of xs ++ files_of ys
@@ -140,3 +165,102 @@ new_files (f ∷ files) = append-nil (map whole_file (f ∷ files))
 
 pub published_files : (files : List NewFile) (rowsets : List Rowset) → files_of rowsets ++ map whole_file files ≡ files_of (published_rowsets files rowsets)
 published_files files rowsets = ap (λ (t : List ListedFile). files_of rowsets ++ t) (sym (new_files files)) ∙ sym (files_of-append rowsets (new_rowset files))
+
+abbrev unmarked : List ListedFile → List ListedFile
+unmarked files = map (marked_file []) files
+
+same_files : (files : List ListedFile) → unmarked files ≡ files
+same_files [] = refl
+same_files (f ∷ files) = ap (λ (fs : List ListedFile). f ∷ fs) (same_files files)
+
+-- where nothing is changed the rowsets are the same
+pub marked_none : (rowsets : List Rowset) → marked [] rowsets ≡ rowsets
+marked_none [] = refl
+marked_none (files ∷ rowsets) = ap (λ (fs : List ListedFile). fs ∷ marked [] rowsets) (same_files files) ∙ ap (λ (rs : List Rowset). files ∷ rs) (marked_none rowsets)
+
+-- the changed rowsets, and the changed new one behind them
+pub marked_new : (cs : List DeadRows) (rowsets : List Rowset) (files : List NewFile) → 0 < length files → marked cs rowsets ++ map (marked_file cs) (map whole_file files) ∷ [] ≡ marked cs (published_rowsets files rowsets)
+marked_new cs rowsets [] lt = absurd (omega arith)
+marked_new cs rowsets (f ∷ files) lt = sym (map-append (λ (fs : List ListedFile). map (marked_file cs) fs) rowsets (map whole_file (f ∷ files) ∷ []))
+
+-- and without new files
+pub marked_old : (cs : List DeadRows) (rowsets : List Rowset) (files : List NewFile) → files ≡ [] → marked cs rowsets ≡ marked cs (published_rowsets files rowsets)
+marked_old cs rowsets files none = ap (marked cs) (sym (append-nil rowsets)) ∙ ap (λ (fs : List NewFile). marked cs (published_rowsets fs rowsets)) (sym none)
+
+-- ---- whether all changed rows are live
+
+found_none : (cs : List DeadRows) → replicate (length cs) false ≡ found_in [] cs
+found_none [] = refl
+found_none (c ∷ cs) = ap (λ (bs : List Bool). false ∷ bs) (found_none cs)
+
+none_lives : (cs : List DeadRows) → lives_in [] cs ≡ true
+none_lives [] = refl
+none_lives (c ∷ cs) = none_lives cs
+
+-- the files of the version and then the new ones were gone over
+pub gone_over : (rowsets : List Rowset) (files : List NewFile) (cs : List DeadRows) (bs one two : List Bool) (old new all : Bool) → AllByRecursion (λ c. 1 ≤ length c.rows) cs
+    → bs ≡ replicate (length cs) false → one ≡ noted_all (files_of rowsets) cs bs → old ≡ lives_all (files_of rowsets) cs bs
+    → two ≡ noted_all (map whole_file files) cs one → new ≡ lives_all (map whole_file files) cs one → all ≡ list_all (λ b. b) two
+    → (old && (new && all)) ≡ list_all (is_live (published_rowsets files rowsets)) (places_of_changes cs)
+gone_over rowsets files cs bs one two old new all some is first oldest second newest every =
+    ap (λ (b : Bool). b && (new && all)) in_old
+    ∙ and_assoc (lives_in (files_of rowsets) cs) new all
+    ∙ ap (λ (b : Bool). b && all) in_all
+    ∙ ap (λ (b : Bool). lives_in whole cs && b) (every ∙ ap (list_all (λ b. b)) found_all)
+    ∙ all_are_live whole cs some
+    ∙ ap (λ (fs : List ListedFile). list_all (lives fs) (places_of_changes cs)) (published_files files rowsets)
+  where
+    whole : List ListedFile
+    whole = files_of rowsets ++ map whole_file files
+
+    and_assoc : (a b c : Bool) → (a && (b && c)) ≡ ((a && b) && c)
+    and_assoc true b c = refl
+    and_assoc false b c = refl
+
+    begun : bs ≡ found_in [] cs
+    begun = is ∙ found_none cs
+
+    in_old : old ≡ lives_in (files_of rowsets) cs
+    in_old = oldest ∙ ap (lives_all (files_of rowsets) cs) begun ∙ ap (λ (b : Bool). b && lives_all (files_of rowsets) cs (found_in [] cs)) (sym (none_lives cs)) ∙ all_lives (files_of rowsets) [] cs
+
+    found_old : one ≡ found_in (files_of rowsets) cs
+    found_old = first ∙ ap (noted_all (files_of rowsets) cs) begun ∙ all_found (files_of rowsets) [] cs
+
+    in_all : (lives_in (files_of rowsets) cs && new) ≡ lives_in whole cs
+    in_all = ap (λ (b : Bool). lives_in (files_of rowsets) cs && b) (newest ∙ ap (lives_all (map whole_file files) cs) found_old) ∙ all_lives (map whole_file files) (files_of rowsets) cs
+
+    found_all : two ≡ found_in whole cs
+    found_all = second ∙ ap (noted_all (map whole_file files) cs) found_old ∙ all_found (map whole_file files) (files_of rowsets) cs
+
+-- ---- places that were grouped
+
+pub same_places : (cs : List DeadRows) (dead : List Place) → cs ≡ grouped dead → places_of_changes cs ≡ dead
+same_places cs dead is = ap places_of_changes is ∙ places_grouped dead
+
+pub shaped_told : (cs : List DeadRows) (dead : List Place) → cs ≡ grouped dead → PlacesRise dead → Shaped cs
+shaped_told cs dead is rise = subst Shaped (sym is) (shaped_grouped dead rise)
+
+pub told_live : (rowsets : List Rowset) (cs : List DeadRows) (dead : List Place) (live : Bool) → cs ≡ grouped dead → are_small dead ≡ true
+    → live ≡ list_all (is_live rowsets) (places_of_changes cs) → list_all (can_die rowsets) dead ≡ live
+told_live rowsets cs dead live is small told = all_can_die rowsets dead small ∙ ap (list_all (is_live rowsets)) (sym (same_places cs dead is)) ∙ sym told
+
+pub told_fit : (rowsets : List Rowset) (cs : List DeadRows) (dead : List Place) (live : Bool) → cs ≡ grouped dead → PlacesRise dead
+    → live ≡ list_all (is_live rowsets) (places_of_changes cs) → live ≡ true → changes_fit 0 (files_of rowsets) cs ≡ true
+told_fit rowsets cs dead live is rise told all = live_changes_fit rowsets cs (shaped_told cs dead is rise) (sym told ∙ all)
+
+each_of : {X : Type 0} (P : X → Type 0) (xs : List X) → AllByRecursion P xs → (k : ℕ) (d : X) → k < length xs → P (get_or xs k d)
+each_of P [] all k d lt = absurd (omega arith)
+each_of P (x ∷ xs) all zero d lt = all.0
+each_of P (x ∷ xs) all (suc k) d lt = each_of P xs all.1 k d (omega arith)
+
+rows_in_range : (cs : List DeadRows) → AllByRecursion (λ c. c.file < 2 ^ 64) cs → RowsRise cs → SmallRows cs → AllByRecursion RowsInRange cs
+rows_in_range [] files rise small = tt
+rows_in_range (c ∷ cs) files rise small =
+    let few = few_rows c.rows (record { rise = rise.0; below = small.0 }) in
+    (record { file = files.0; count = omega arith; rows = each_of (λ (r : ℕ). r < 2 ^ 16) c.rows small.0 }, rows_in_range cs files.1 rise.1 small.1)
+
+pub in_range : (cs : List DeadRows) (dead : List Place) → cs ≡ grouped dead → PlacesRise dead → are_small dead ≡ true → AllByRecursion (λ c. c.file < 2 ^ 64) cs → length cs < 2 ^ 64 → AreInRange cs
+in_range cs dead is rise small files count = record {
+  count = count;
+  each = each_of RowsInRange cs (rows_in_range cs files (shaped_told cs dead is rise).rows (subst SmallRows (sym is) (small_grouped dead small)));
+}

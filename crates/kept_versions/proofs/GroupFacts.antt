@@ -155,6 +155,25 @@ still_small ps i end e h is = ap (λ (b : Bool). b && are_small (drop end ps)) (
 pub not_small : (ps : List Place) (i end : ℕ) → end ≡ i + run_at ps i origin → are_small (drop i ps) ≡ are_small ps → are_small (slice_range ps i end) ≡ false → are_small ps ≡ false
 not_small ps i end e h is = sym (small_next ps i end e h) ∙ ap (λ (b : Bool). b && are_small (drop end ps)) is
 
+pub all_push : {X : Type 0} (P : X → Type 0) (xs : List X) (x : X) → AllByRecursion P xs → P x → AllByRecursion P (xs ++ x ∷ [])
+all_push P [] x all one = (one, tt)
+all_push P (y ∷ xs) x all one = (all.0, all_push P xs x all.1 one)
+
+abbrev pub SmallRows : List DeadRows → Type 0
+SmallRows cs = AllByRecursion (λ c. AreRows c.rows) cs
+
+small_more : (p : Place) (cs : List DeadRows) → p.row < 65536 → SmallRows cs → SmallRows (with_place p cs)
+small_more p [] lt all = ((lt, tt), tt)
+small_more p (c ∷ cs) lt all = go (c.file == p.segment)
+  where
+    go : (b : Bool) → SmallRows (if b then rows_of p.segment (p.row ∷ c.rows) ∷ cs else rows_of p.segment (p.row ∷ []) ∷ c ∷ cs)
+    go true = ((lt, all.0), all.1)
+    go false = ((lt, tt), all)
+
+pub small_grouped : (ps : List Place) → are_small ps ≡ true → SmallRows (grouped ps)
+small_grouped [] h = tt
+small_grouped (p ∷ ps) h = let q = and_parts (nat_lt p.row 65536) (are_small ps) h in small_more p (grouped ps) (ltb-true p.row 65536 q.0) (small_grouped ps q.1)
+
 -- ---- rising places
 
 

@@ -1,4 +1,5 @@
-ghost use Rattle.std.specs.Prelude.{◌≡◌, ◌+◌, ◌<◌, ◌≤◌, IfOk, IfSome, IfNone, true, false, length, drop, map, get_or};
+ghost use Rattle.std.specs.Prelude.{◌≡◌, ◌+◌, ◌^◌, ◌<◌, ◌≤◌, IfOk, IfSome, IfNone, true, false, length, drop, map, get_or};
+ghost use Rattle.std.specs.List.{AllByRecursion};
 ghost use Rattle.kept_versions.specs.Marking.{are_small, grouped, run};
 
 use dev_traits::Memory;
@@ -40,6 +41,7 @@ fn rows_of(alloc: Global, places: &[Place]) -> Result<Option<Items<u16>>, Memory
 pub fn group(alloc: Global, dead: &[Place]) -> Result<Option<Items<DeadRows>>, Memory>
     ensures groups { IfOk result (λ told. IfSome told (λ changed. changed ≡ grouped dead.now)) }
     ensures small { IfOk result (λ told. IfSome told (λ _. are_small dead.now ≡ true)) }
+    ensures range { IfOk result (λ told. IfSome told (λ changed. AllByRecursion (λ c. c.file < 2 ^ 64) changed)) }
     ensures none { IfOk result (λ told. IfNone told (are_small dead.now ≡ false)) }
 {
     let mut changed = Items::new(alloc);

@@ -45,6 +45,18 @@ impl From<AllocError> for ChangeFault {
     }
 }
 
+// Whether each is true.
+fn are_all(found: &[bool]) -> bool
+    ensures { result ≡ list_all (λ b. b) found.now }
+{
+    for here in found {
+        if !*here {
+            return false;
+        }
+    }
+    true
+}
+
 // Whether all changed rows are live, in a version and the new files behind it.
 fn all_live(
     alloc: Global,
@@ -58,9 +70,13 @@ fn all_live(
 {
     let new = whole_files(alloc, new_files)?;
     let mut found = vec![in alloc; false; changed.len()]?;
-    let in_version = note_rowsets(changed, &mut found, current.rowsets());
-    let in_new = note_all(changed, &mut found, new.as_slice());
-    Ok(in_version && in_new && found.iter().all(|here| *here))
+    if !note_rowsets(changed, &mut found, current.rowsets()) {
+        return Ok(false);
+    }
+    if !note_all(changed, &mut found, new.as_slice()) {
+        return Ok(false);
+    }
+    Ok(are_all(found.as_slice()))
 }
 
 /// What a change makes of the current version: the rows at these places, which rise, are dead, and
@@ -87,6 +103,7 @@ pub fn publish_change(
     if !all_live(alloc, current, new_files, changed.as_slice())? {
         return Err(ChangeFault::NotLive);
     }
+    let _count = changed.len();
     let next = current.after_publish(alloc, new_files, changed.as_slice())?;
     Ok(Published {
         current: next,

@@ -1,7 +1,8 @@
-use Rattle.std.proofs.Common.{◌≡◌, ℕ, ◌++◌, ◌∷◌, [], ◌∙◌, ap, subst, List, drop, map, slice_range, true, false, Option, IfNone, IfSome}
+use Rattle.std.proofs.Common.{◌≡◌, ℕ, ◌++◌, ◌∷◌, [], ◌∙◌, ◌^◌, ◌<◌, ap, sym, subst, List, drop, map, slice_range, true, false, Option, IfNone, IfSome}
+use Rattle.std.specs.List.{AllByRecursion}
 use Rattle.journal_form.specs.declared.records.DeadRows.{DeadRows}
 use Rattle.kept_versions.specs.Marking.{are_small, grouped}
-use Rattle.kept_versions.proofs.GroupFacts.{next_group, not_small, row_numbers, still_small}
+use Rattle.kept_versions.proofs.GroupFacts.{all_push, next_group, not_small, row_numbers, still_small}
 use Rattle.kept_versions.proofs.groups.group.Goals as goal
 
 pub returns-in_default-clause-none : goal.returns-in_default-clause-none
@@ -24,5 +25,6 @@ loop-i-preserved c =
       groups =
           ap (λ (cs : List DeadRows). cs ++ grouped (drop end dead)) c.in_ok-push.ensures.ok
           ∙ next_group dead i end c.loop-i.changed c.in-Some.rows c.loop-i-test.true c.run_end-end.ensures.end rows c.loop-i.invariant.groups;
+      range = subst (λ (cs : List DeadRows). AllByRecursion (λ c. c.file < 2 ^ 64) cs) (sym c.in_ok-push.ensures.ok) (all_push (λ (c : DeadRows). c.file < 2 ^ 64) c.loop-i.changed _ c.loop-i.invariant.range c.loop-i-test.element_fits.fits);
       small = still_small dead i end c.run_end-end.ensures.end c.loop-i.invariant.small small;
     }
