@@ -176,7 +176,6 @@ small_grouped (p ∷ ps) h = let q = and_parts (nat_lt p.row 65536) (are_small p
 
 -- ---- rising places
 
-
 starts_with : (p : Place) (cs : List DeadRows) → (rows : List ℕ) × (rest : List DeadRows) × (with_place p cs ≡ rows_of p.segment (p.row ∷ rows) ∷ rest)
 starts_with p [] = ([], [], refl)
 starts_with p (c ∷ cs) = go (c.file == p.segment)

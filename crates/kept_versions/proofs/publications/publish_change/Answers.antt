@@ -61,7 +61,7 @@ returns-clause-range c =
     let is = subst (λ (told : Option (List DeadRows)). IfSome told (λ cs. cs ≡ grouped dead)) c.in-Some.is c.in_ok-changed.ensures.groups in
     let small = subst (λ (told : Option (List DeadRows)). IfSome told (λ _. are_small dead ≡ true)) c.in-Some.is c.in_ok-changed.ensures.small in
     let files = subst (λ (told : Option (List DeadRows)). IfSome told (λ cs. AllByRecursion (λ c. c.file < 2 ^ 64) cs)) c.in-Some.is c.in_ok-changed.ensures.range in
-    in_range c.in-Some.changed dead is c.requires small files (omega (arith, c.len-_count.ensures))
+    in_range c.in-Some.changed dead is c.requires small files (omega (arith, c.len-count.ensures))
 
 pub returns-clause-live : goal.returns-clause-live
 returns-clause-live c =
