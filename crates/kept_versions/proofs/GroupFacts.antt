@@ -1,6 +1,6 @@
 -- Places one after the other, by their files.
 use Rattle.std.proofs.Common.{◌≡◌, ◌⊎◌, inl, inr, refl, ap, sym, subst, ◌∙◌, ℕ, zero, suc, ◌+◌, ◌-◌, ◌<◌, ◌≤◌, arith, List, [], ◌∷◌, ◌++◌, map, length, take, drop, get_or, append_assoc, Bool, true, false, ◌&&◌, nat_lt, ◌==◌, if◌then◌else◌}
-use Rattle.std.specs.List.{list_all, slice_range, AllByRecursion}
+use Rattle.std.specs.List.{slice_range, AllByRecursion}
 use Rattle.std.proofs.lemmas.Bool.{and_parts, ltb-true, eqb-true, eqb-false, ne_eqb, eq-eqb}
 use Rattle.index_level0.specs.declared.place.Place.{Place}
 use Rattle.rowsets.specs.Marks.{Rises}

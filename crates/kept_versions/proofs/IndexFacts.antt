@@ -1,5 +1,5 @@
 -- A hash map's entries as an index from codes to places.
-use Rattle.std.proofs.Common.{◌≡◌, refl, ap, sym, ◌∙◌, ℕ, ◌+◌, arith, List, [], ◌∷◌, length, Option, Some, None, is_some, Bool as Truth, true, false, cond, ◌||◌}
+use Rattle.std.proofs.Common.{◌≡◌, refl, ap, sym, ◌∙◌, ℕ, ◌+◌, arith, List, [], ◌∷◌, length, Some, None, is_some, Bool as Truth, false, cond, ◌||◌}
 use Rattle.std.specs.List.{AllByRecursion, list_any, IsDistinct}
 use Rattle.std.specs.Map.{lookup, keys_of}
 use Rattle.std.specs.FinMap.{contains_key, find, from_entries, get, get-from_entries, get-insert, get-remove, insert, len, len-empty, len-insert, remove, same_map}

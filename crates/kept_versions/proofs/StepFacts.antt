@@ -1,15 +1,13 @@
 -- A publication's record fits the standing that it is made for, and what it means.
-use Rattle.std.proofs.Common.{◌≡◌, refl, ap, sym, subst, ◌∙◌, ℕ, ◌+◌, ◌-◌, ◌≤◌, ◌<◌, max, arith, List, [], ◌∷◌, length, Bool, true, false, ◌&&◌, not, nat_lt, nat_le, ◌==◌, if◌then◌else◌, Option, Some, None, is_some}
+use Rattle.std.proofs.Common.{◌≡◌, refl, ap, sym, subst, ◌∙◌, ℕ, ◌+◌, ◌-◌, ◌≤◌, ◌<◌, max, arith, List, [], ◌∷◌, length, Bool, true, false, ◌&&◌, not, nat_lt, nat_le, ◌==◌, if◌then◌else◌, None, is_some}
 use Rattle.std.specs.Option.{option_map}
 use Rattle.std.proofs.lemmas.Bool.{and_parts, and_from, lt-ltb, le-leb, eqb-true}
 use Rattle.journal_form.specs.declared.records.NewFile.{NewFile}
-use Rattle.journal_form.specs.declared.records.DeadRows.{DeadRows}
-use Rattle.journal_form.specs.declared.records.Record.{Record}
 use Rattle.journal_form.specs.declared.records.Record.TheVariants.{Publish}
-use Rattle.journal_form.specs.Versions.{Versions, above, all_below, bound, changed, changes_fit, consecutive, current_number, files_fit, files_of, numbers_of, published, published_rowsets}
-use Rattle.journal_form.specs.Meaning.{Standing, most_file, step, step_at}
+use Rattle.journal_form.specs.Versions.{Versions, above, all_below, bound, consecutive, current_number, files_fit, numbers_of}
+use Rattle.journal_form.specs.Meaning.{Standing, most_file, step_at}
 use Rattle.journal_form.proofs.Applied.{changed_closes, publish_closes}
-use Rattle.kept_versions.specs.Changes.{IsDue, NumbersAdvance, PublicationSteps, standing_after}
+use Rattle.kept_versions.specs.Changes.{NumbersAdvance, PublicationSteps, standing_after}
 
 -- ---- new files
 

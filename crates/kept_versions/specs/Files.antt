@@ -1,5 +1,5 @@
 -- The files of a version: which of their rows are live.
-use Rattle.std.specs.Prelude.{◌≡◌, ◌⊎◌, ℕ, ◌+◌, ◌-◌, ◌<◌, ⊤, List, [], ◌∷◌, length, map, sum, Option, Some, None, Bool as Truth, false, ◌&&◌, not, nat_lt, ◌==◌}
+use Rattle.std.specs.Prelude.{◌≡◌, ◌⊎◌, ℕ, ◌-◌, ◌<◌, ⊤, List, [], ◌∷◌, length, map, sum, Option, Some, None, Bool as Truth, false, ◌&&◌, not, nat_lt, ◌==◌}
 use Rattle.std.specs.List.{list_any}
 use Rattle.index_level0.specs.declared.place.Place.{Place}
 use Rattle.journal_form.specs.declared.records.ListedFile.{ListedFile}

@@ -1,4 +1,4 @@
-use Rattle.std.proofs.Common.{◌≡◌, ℕ, ◌++◌, ◌∷◌, [], ◌∙◌, ◌^◌, ◌<◌, ap, sym, subst, List, drop, map, slice_range, true, false, Option, IfNone, IfSome}
+use Rattle.std.proofs.Common.{◌≡◌, ℕ, ◌++◌, ◌∙◌, ◌^◌, ◌<◌, ap, sym, subst, List, drop, slice_range, true, false, Option, IfNone, IfSome}
 use Rattle.std.specs.List.{AllByRecursion}
 use Rattle.journal_form.specs.declared.records.DeadRows.{DeadRows}
 use Rattle.kept_versions.specs.Marking.{are_small, grouped}

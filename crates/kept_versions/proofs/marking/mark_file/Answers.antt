@@ -1,4 +1,4 @@
-use Rattle.std.proofs.Common.{◌≡◌, ℕ, ◌∙◌, List, [], ap, sym, subst, IfOk, ◌==◌, false}
+use Rattle.std.proofs.Common.{◌≡◌, ℕ, ◌∙◌, List, sym, subst, IfOk, ◌==◌, false}
 use Rattle.std.specs.List.{list_any}
 use Rattle.rowsets.specs.Marks.{with_rows}
 use Rattle.journal_form.specs.declared.records.ListedFile.{ListedFile}

@@ -1,7 +1,4 @@
-use Rattle.std.proofs.Common.{◌≡◌, ◌∙◌, ◌+◌, ◌&&◌, ap, sym, Bool, List, length, drop}
-use Rattle.journal_form.specs.declared.records.ListedFile.{ListedFile}
-use Rattle.journal_form.specs.Versions.{files_of}
-use Rattle.kept_versions.specs.Marking.{lives_all, noted_all}
+use Rattle.std.proofs.Common.{◌≡◌, ◌∙◌, ◌+◌, ◌&&◌, ap, sym, Bool, length, drop}
 use Rattle.kept_versions.proofs.FindFacts.{cut, length-noted, note_found, note_lives}
 use Rattle.kept_versions.proofs.marking.note_all.Goals as goal
 use Rattle.kept_versions.proofs.marking.note_all.Goals.{then-live, else-live}

@@ -1,4 +1,4 @@
-use Rattle.std.proofs.Common.{◌≡◌, ◌∙◌, ◌+◌, ◌&&◌, ap, sym, Bool, List, length, drop}
+use Rattle.std.proofs.Common.{◌≡◌, ◌∙◌, ◌+◌, ◌&&◌, ap, sym, Bool, List, drop}
 use Rattle.journal_form.specs.declared.records.ListedFile.{ListedFile}
 use Rattle.journal_form.specs.Versions.{files_of}
 use Rattle.kept_versions.specs.Marking.{lives_all, noted_all}

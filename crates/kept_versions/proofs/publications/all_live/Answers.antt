@@ -1,4 +1,4 @@
-use Rattle.std.proofs.Common.{◌≡◌, ◌∙◌, ap, sym, refl, List, Bool, ◌&&◌, map}
+use Rattle.std.proofs.Common.{◌∙◌, ap, sym, refl, List, Bool, ◌&&◌, map}
 use Rattle.std.specs.List.{list_all}
 use Rattle.journal_form.specs.declared.records.ListedFile.{ListedFile}
 use Rattle.journal_form.specs.Versions.{files_of, whole_file}

@@ -1,4 +1,4 @@
-use Rattle.std.proofs.Common.{arith, ◌≡◌, ◌∙◌, ◌<◌, ◌^◌, ap, sym, subst, List, Option, IfNone, IfSome, length, true, false}
+use Rattle.std.proofs.Common.{arith, ◌≡◌, ◌∙◌, ◌<◌, ◌^◌, sym, subst, List, Option, IfNone, IfSome, true, false}
 use Rattle.std.specs.List.{list_all, AllByRecursion}
 use Rattle.journal_form.specs.declared.records.DeadRows.{DeadRows}
 use Rattle.journal_form.specs.Versions.{published_rowsets}

@@ -1,4 +1,4 @@
-use Rattle.std.proofs.Common.{◌≡◌, ◌≤◌, ◌∙◌, ℕ, ap, subst, List, length, map, min}
+use Rattle.std.proofs.Common.{◌≤◌, ◌∙◌, ℕ, ap, subst, List, length, map, min}
 use Rattle.std.specs.Prelude.{sum}
 use Rattle.std.proofs.lemmas.List.{take_all}
 use Rattle.journal_form.specs.declared.records.ListedFile.{ListedFile}
