@@ -178,3 +178,21 @@ take_all zero [] le = refl
 take_all zero (x ∷ xs) le = absurd (omega arith)
 take_all (suc n) [] le = refl
 take_all (suc n) (x ∷ xs) le = ap (λ ys. x ∷ ys) (take_all n xs (omega arith))
+
+abbrev fault_in : {C : Type 0} → Result C ReadFault → ReadFault
+fault_in (Err e) = e
+fault_in (Ok x) = read.Memory
+
+-- readers that never failed are given back after a call that did
+pub cause_between : {R T U : Type 0} (view : R → ReaderView) (before after : List (Segment R)) (old loop mid new : ℕ) (e : ReadFault) → loop ≡ old → HasReadCause {T = T} loop mid (Err e)
+    → after ≡ before → faults_in view before ≡ 0 → Counts (faults_in view after) mid new → HasReadCause {T = U} old new (Err e)
+cause_between {R} {T} {U} view before after old loop mid new e unfailed cause same none counts = record {
+  well = λ other. still ∙ cause.well (λ is. other (ap Err (ap fault_in is))) ∙ unfailed;
+  failed = λ is. subst (λ n. Counts 1 old n) (sym still) (subst (λ n. Counts 1 n mid) unfailed (cause.failed (ap Err (ap fault_in is))));
+}
+  where
+    zero_faults : faults_in view after ≡ 0
+    zero_faults = ap (faults_in view) same ∙ none
+
+    still : new ≡ mid
+    still = let z = zero_faults in let h = counts in omega arith
