@@ -107,3 +107,8 @@ no_rows_fit s = All-nil (λ row. IsTrue (fits_row s row))
 -- the live rows of a block and those behind it
 pub on_block : (b : ℕ) (piece : Piece) (live : List Row) (o : Option ℕ) → live ≡ live_in b piece → rows_ahead o piece ≡ live_from (b + 1) piece → live ++ rows_ahead o piece ≡ live_from b piece
 on_block b piece live o here behind = ap (λ xs. xs ++ rows_ahead o piece) here ∙ ap (λ ys. live_in b piece ++ ys) behind ∙ sym (live_next b piece)
+
+-- the next block stands behind this one
+pub past : (b rows : ℕ) (o : Option ℕ) → IfSome o (λ n. (b + 1 ≤ n) × (n * 1024 < rows)) → IfSome o (λ n. b < n)
+past b rows None h = tt
+past b rows (Some n) h = let le = h.0 in omega arith

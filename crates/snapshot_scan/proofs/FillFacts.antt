@@ -62,10 +62,11 @@ filled_due s i b old mid new u filled reads = record {
   long = ap length reads.now ∙ length-set mid i (read_by reads.reader reads.part) ∙ filled.long;
   done = λ j part lt e. elim (same_place j i) [
     | inl g ↦
-        let is : reads.part ≡ part = some_one reads.part part (sym reads.there ∙ filled.ahead i (omega arith) ∙ ap (slice_get old) (sym g) ∙ e) in
-        (reads.reader,
-         ap (slice_get new) g ∙ ap (λ ps. slice_get ps i) reads.now ∙ get_set mid i reads.part (read_by reads.reader reads.part) reads.there ∙ ap (λ p. Some (read_by reads.reader p)) is,
-         subst (λ (p : PartView). MayHaveRead 1 p.reader reads.reader) is (read_once reads.part.reader reads.reader reads.how.0))
+        let is : reads.part ≡ part = some_one reads.part part (sym reads.there ∙ filled.ahead i (omega arith) ∙ ap (slice_get old) (sym g) ∙ e) in (
+          reads.reader,
+          ap (slice_get new) g ∙ ap (λ ps. slice_get ps i) reads.now ∙ get_set mid i reads.part (read_by reads.reader reads.part) reads.there ∙ ap (λ p. Some (read_by reads.reader p)) is,
+          subst (λ (p : PartView). MayHaveRead 1 p.reader reads.reader) is (read_once reads.part.reader reads.reader reads.how.0),
+        )
     | inr g ↦ let w = filled.done j part (omega arith) e in
         (w.0, ap (λ ps. slice_get ps j) reads.now ∙ get_other mid i j (read_by reads.reader reads.part) g ∙ w.1, w.2)
   ];
@@ -105,9 +106,9 @@ fill_failed v cs s i b fault old new filled are due reads = record { reads = rec
           let is : reads.part ≡ part = some_one reads.part part (sym there ∙ ap (slice_get old) (sym g) ∙ e) in
           (reads.reader, ap (slice_get new) g ∙ now ∙ ap (λ p. Some (read_by reads.reader p)) is, inr (subst (λ (p : PartView). HasFailed 1 p.reader reads.reader fault) is reads.how.0))
       | inr g ↦ elim (same_place (min j i) j) [
-          | inl h ↦ let w = filled.done j part (omega arith) e in (w.0, rest j g ∙ w.1, inl w.2)
-          | inr h ↦ (part.reader, rest j g ∙ filled.ahead j (omega arith) ∙ e, inl (unread part.reader))
-        ]
+        | inl h ↦ let w = filled.done j part (omega arith) e in (w.0, rest j g ∙ w.1, inl w.2)
+        | inr h ↦ (part.reader, rest j g ∙ filled.ahead j (omega arith) ∙ e, inl (unread part.reader))
+      ]
     ]
 
 -- no part failed, and memory was wanted

@@ -92,10 +92,11 @@ left_taken : (cs : List CursorView) (pieces : List Piece) (w : ℕ) (c : CursorV
     → (t : List Row) × (slice_get (rows_left cs pieces) w ≡ Some (r ∷ t)) × (rows_left (slice_set cs w (one_less c)) pieces ≡ slice_set (rows_left cs pieces) w t)
 left_taken [] pieces w c r q long e f = absurd (none_some c e)
 left_taken (x ∷ cs) [] w c r q long e f = absurd (omega arith)
-left_taken (x ∷ cs) (piece ∷ pieces) zero c r q long e f =
-    (q ++ rows_ahead c.ahead piece,
-     ap (λ (y : CursorView). Some (y.rows ++ rows_ahead y.ahead piece)) (some_one x c e) ∙ ap (λ rows. Some (rows ++ rows_ahead c.ahead piece)) f,
-     ap (λ rows. (drop 1 rows ++ rows_ahead c.ahead piece) ∷ rows_left cs pieces) f)
+left_taken (x ∷ cs) (piece ∷ pieces) zero c r q long e f = (
+  q ++ rows_ahead c.ahead piece,
+  ap (λ (y : CursorView). Some (y.rows ++ rows_ahead y.ahead piece)) (some_one x c e) ∙ ap (λ rows. Some (rows ++ rows_ahead c.ahead piece)) f,
+  ap (λ rows. (drop 1 rows ++ rows_ahead c.ahead piece) ∷ rows_left cs pieces) f,
+)
 left_taken (x ∷ cs) (piece ∷ pieces) (suc w) c r q long e f =
     let more = left_taken cs pieces w c r q (omega arith) e f in
     (more.0, more.1, ap (λ ls. (x.rows ++ rows_ahead x.ahead piece) ∷ ls) more.2)

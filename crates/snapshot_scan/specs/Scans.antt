@@ -16,7 +16,7 @@ use Rattle.row_merge.specs.declared.brackets.Bracket.{Bracket}
 use Rattle.row_merge.specs.Cursors.{CursorView, Fit, front_at}
 use Rattle.row_merge.specs.Merge.{merge_all}
 use Rattle.snapshot_scan.specs.Parts.{PartView, IsPieceOf, live_from, read_by}
-use Rattle.snapshot_scan.specs.Snapshots.{ArePieces, ReadsPart, SnapshotView}
+use Rattle.snapshot_scan.specs.Snapshots.{ArePieces, read_count, ReadsPart, SnapshotView}
 
 -- the snapshot, where the scan stands in each of its parts, and the fault that ended it
 pub record ScanView : Type 0 where
@@ -88,6 +88,8 @@ IsBlockDamage s part b = IsDamage part.number (place.Block b) (λ shown. OfFile 
 -- block b of a part was read, by one read, and the cursor stands at its live rows, of which there is one
 pub record ReadOn (s : Layout) (part : PartView) (b : ℕ) (reader : ReaderView) (result : Result CursorView ReadFault) : Type 0 where
   pub reading : Reading 1 part.reader reader result
+  pub within : b < length part.footer.blocks
+  pub onward : IfOk result (λ c. IfSome c.ahead (λ next. b < next))
   pub cursor : IfOk result (IsCursor s part)
   pub some : IfOk result (λ c. c.rows ≡ [] → ⊥)
   pub rows : IfOk result (λ c. (piece : Piece) → IsPieceOf s part piece → c.rows ++ rows_ahead c.ahead piece ≡ live_from b piece)
@@ -145,3 +147,22 @@ pub record PartFailed (s : Layout) (fault : ReadFault) (old new : List PartView)
 pub record ScanFailed (s : Layout) (fault : ReadFault) (old new : List PartView) : Type 0 where
   pub reads : ReadsEach old new (λ before now. MayHaveRead 1 before now ⊎ HasFailed 1 before now fault)
   pub cause : (fault ≢ read.Memory) → PartFailed s fault old new
+
+-- how many blocks there are
+abbrev pub block_count : List PartView → ℕ
+block_count [] = 0
+block_count (part ∷ parts) = length part.footer.blocks + block_count parts
+
+-- of so many blocks those from the next one on
+abbrev pub blocks_ahead : Option ℕ → ℕ → ℕ
+blocks_ahead None n = 0
+blocks_ahead (Some b) n = n - b
+
+abbrev pub blocks_left : List PartView → List CursorView → ℕ
+blocks_left [] cursors = 0
+blocks_left (part ∷ parts) [] = 0
+blocks_left (part ∷ parts) (c ∷ cursors) = blocks_ahead c.ahead (length part.footer.blocks) + blocks_left parts cursors
+
+-- the reads that were made, and those that it takes at most to read each block that is left once
+abbrev pub reads_in_all : List PartView → List CursorView → ℕ
+reads_in_all parts cursors = read_count parts + blocks_left parts cursors

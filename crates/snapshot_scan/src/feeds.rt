@@ -1,11 +1,11 @@
-ghost use Rattle.std.specs.Prelude.{◌≡◌, ◌<◌, ℕ, List, IfErr, IfOk, IsOk, OnErr, OnOk, None, length, map, slice_get};
+ghost use Rattle.std.specs.Prelude.{◌≡◌, ◌+◌, ◌<◌, ◌≤◌, ℕ, List, IfErr, IfOk, IsOk, OnErr, OnOk, None, length, map, slice_get};
 ghost use Rattle.rowsets.specs.Scans.{Piece};
 ghost use Rattle.rowsets.specs.Scans as scans;
 ghost use Rattle.row_merge.specs.Cursors.{AllFit};
 ghost use Rattle.row_merge.specs.Merge.{merge_all};
 ghost use Rattle.segment_read.specs.Reads.{OnDamage};
-ghost use Rattle.snapshot_scan.specs.Scans.{AreCursors, Gives, IsDue, IsPlayed, IsScanning, IsSettled, NoneDue, ReadsDue, ReadsOnce, rows_left, ScanFailed, Taken};
-ghost use Rattle.snapshot_scan.specs.Snapshots.{ArePieces};
+ghost use Rattle.snapshot_scan.specs.Scans.{AreCursors, Gives, IsDue, IsPlayed, IsScanning, IsSettled, NoneDue, block_count, reads_in_all, ReadsDue, ReadsOnce, rows_left, ScanFailed, Taken};
+ghost use Rattle.snapshot_scan.specs.Snapshots.{ArePieces, read_count};
 
 use crate::snapshots::Snapshot;
 use dev_traits::{Memory, ReadFault, SealedReader};
@@ -32,6 +32,8 @@ pub fn refill<R: SealedReader>(
     ensures settled { OnOk result (IsSettled cursors.new.items i) }
     ensures at_hand { IsSettled cursors.old.items i → IsOk result × (snapshot.new ≡ snapshot.old) }
     ensures read { (b : ℕ) → IsDue cursors.old.items i b → ReadsDue snapshot.old.schema i b snapshot.old.parts snapshot.new.parts result }
+    ensures most { read_count snapshot.new.parts ≤ read_count snapshot.old.parts + 1 }
+    ensures once { OnOk result (reads_in_all snapshot.new.parts cursors.new.items ≤ reads_in_all snapshot.old.parts cursors.old.items) }
     ensures intact { IfErr result (λ e. OnDamage e (λ damaged. (pieces : List Piece) → ArePieces snapshot.old.schema snapshot.old.parts pieces → ⊥)) }
     ensures version { snapshot.new.version ≡ snapshot.old.version }
     ensures schema { snapshot.new.schema ≡ snapshot.old.schema }
@@ -95,6 +97,7 @@ fn fill<R: SealedReader>(
     ensures none_due { OnOk result (NoneDue cursors.new.items) }
     ensures left { OnOk result ((pieces : List Piece) → ArePieces snapshot.old.schema snapshot.old.parts pieces → ArePieces snapshot.new.schema snapshot.new.parts pieces × (rows_left cursors.new.items pieces ≡ rows_left cursors.old.items pieces)) }
     ensures reads { OnOk result (ReadsOnce snapshot.old.parts snapshot.new.parts) }
+    ensures once { OnOk result (reads_in_all snapshot.new.parts cursors.new.items ≤ reads_in_all snapshot.old.parts cursors.old.items) }
     ensures failed { IfErr result (λ e. ScanFailed snapshot.old.schema e snapshot.old.parts snapshot.new.parts) }
     ensures intact { IfErr result (λ e. OnDamage e (λ damaged. (pieces : List Piece) → ArePieces snapshot.old.schema snapshot.old.parts pieces → ⊥)) }
     ensures version { snapshot.new.version ≡ snapshot.old.version }
@@ -114,6 +117,7 @@ pub fn start<R: SealedReader>(
     ensures are { IfOk result (λ begun. IsScanning snapshot.new begun.0.items begun.1 0 None) }
     ensures left { IfOk result (λ begun. (pieces : List Piece) → ArePieces snapshot.old.schema snapshot.old.parts pieces → ArePieces snapshot.new.schema snapshot.new.parts pieces × (rows_left begun.0.items pieces ≡ map scans.live_rows pieces)) }
     ensures reads { OnOk result (ReadsOnce snapshot.old.parts snapshot.new.parts) }
+    ensures once { IfOk result (λ begun. reads_in_all snapshot.new.parts begun.0.items ≤ read_count snapshot.old.parts + block_count snapshot.old.parts) }
     ensures failed { IfErr result (λ e. ScanFailed snapshot.old.schema e snapshot.old.parts snapshot.new.parts) }
     ensures intact { IfErr result (λ e. OnDamage e (λ damaged. (pieces : List Piece) → ArePieces snapshot.old.schema snapshot.old.parts pieces → ⊥)) }
     ensures version { snapshot.new.version ≡ snapshot.old.version }

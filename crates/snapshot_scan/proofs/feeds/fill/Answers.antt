@@ -18,6 +18,7 @@ loop-i-preserved g c =
       settled = settled_more c.loop-i.cursors.items c.refill.new.cursors.items c.loop-i.i inv.settled ok.others ok.settled;
       left = λ pieces told. let a = inv.left pieces told in let b = ok.left pieces a.0 in (b.0, b.1 ∙ a.1);
       filled = fill_more c.loop-i.snapshot.schema c.loop-i.cursors.items c.loop-i.i c.args.snapshot.now.parts c.loop-i.snapshot c.refill.new.snapshot c.in_ok-refill.field-0 inv.filled (omega arith) (λ h. (ok.at_hand h).1) ok.read;
+      once = let more = ok.once in let before = inv.once in omega arith;
       version = ok.version ∙ inv.version;
       schema = ok.schema ∙ inv.schema;
     }
