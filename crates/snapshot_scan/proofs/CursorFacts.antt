@@ -10,12 +10,11 @@ use Rattle.column_page.specs.declared.footers.BlockMark.{BlockMark}
 use Rattle.column_page.specs.declared.footers.Footer.{Footer}
 use Rattle.column_page.proofs.FooterParts.{block_parts, footer_parts}
 use Rattle.segment_read.specs.Reads.{OfBlock}
-use Rattle.rowsets.specs.Scans.{Piece, alive, live_rows}
-use Rattle.row_merge.specs.Cursors.{CursorView, Fit}
-use Rattle.snapshot_scan.specs.Parts.{PartView, IsPieceOf, live_from, live_in}
+use Rattle.rowsets.specs.Scans.{Piece, alive}
+use Rattle.row_merge.specs.Cursors.{CursorView}
+use Rattle.snapshot_scan.specs.Parts.{PartView, live_from, live_in}
 use Rattle.snapshot_scan.specs.Scans.{HasLive, IsCursor, rows_ahead}
 use Rattle.snapshot_scan.proofs.ListFacts.{none_some, some_one}
-use Rattle.snapshot_scan.proofs.PartFacts.{piece_long}
 use Rattle.snapshot_scan.proofs.StreamFacts.{live_later, live_never, live_next, live_some}
 
 abbrev Row : Type 0

@@ -1,16 +1,15 @@
 -- The first blocks of all parts, read one after the other.
-use Rattle.std.proofs.Common.{◌≡◌, ◌≢◌, refl, ap, sym, subst, ◌∙◌, ◌⊎◌, inl, inr, ℕ, zero, suc, ◌+◌, ◌-◌, ◌^◌, ◌<◌, ◌≤◌, min, List, [], ◌∷◌, ◌++◌, length, length-append, map, slice_get, slice_set, Option, Some, None, Result, Ok, Err, IfErr, IsOk, arith}
+use Rattle.std.proofs.Common.{◌≡◌, refl, ap, sym, subst, ◌∙◌, ◌⊎◌, inl, inr, ℕ, zero, suc, ◌+◌, ◌-◌, ◌^◌, ◌<◌, ◌≤◌, min, List, [], ◌∷◌, ◌++◌, length, length-append, map, slice_get, Option, Some, None, Ok, Err, arith}
 use Rattle.pk_values.specs.Schemas.{Layout}
-use Rattle.pk_values.specs.declared.cells.Value.{Value}
 use Rattle.dev_traits.specs.Reader.{ReaderView}
 use Rattle.dev_traits.specs.declared.faults.ReadFault.{ReadFault}
 use Rattle.dev_traits.specs.declared.faults.ReadFault.TheVariants as read
-use Rattle.segment_read.specs.Reads.{HasFailed, HasRead, MayHaveRead, OnDamage, Reading}
+use Rattle.segment_read.specs.Reads.{HasFailed, HasRead, MayHaveRead, OnDamage}
 use Rattle.rowsets.specs.Scans.{Piece, live_rows}
 use Rattle.row_merge.specs.Cursors.{CursorView, due}
 use Rattle.snapshot_scan.specs.Parts.{PartView, IsPieceOf, read_by}
-use Rattle.snapshot_scan.specs.Scans.{AreCursors, IsBlockDamage, IsCursor, IsDue, IsSettled, HasLive, PartFailed, ReadsDue, ReadsEach, ReadsOnce, rows_ahead, rows_left, ScanFailed}
-use Rattle.snapshot_scan.specs.Snapshots.{ArePieces, ReadsPart, SnapshotView}
+use Rattle.snapshot_scan.specs.Scans.{AreCursors, IsCursor, IsDue, IsSettled, PartFailed, ReadsDue, ReadsOnce, rows_ahead, rows_left, ScanFailed}
+use Rattle.snapshot_scan.specs.Snapshots.{ArePieces, SnapshotView}
 use Rattle.snapshot_scan.proofs.ListFacts.{get_other, get_set, length-set, none_some, some_one}
 use Rattle.snapshot_scan.proofs.LeftFacts.{due_none, due_some, get_there, got_within}
 use Rattle.snapshot_scan.proofs.PartFacts.{on_damage}

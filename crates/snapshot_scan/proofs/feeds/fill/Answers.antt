@@ -1,7 +1,7 @@
-use Rattle.std.proofs.Common.{◌≡◌, ◌∙◌, ◌<◌, ◌≤◌, ap, arith, false, length, refl, sym, subst, true}
+use Rattle.std.proofs.Common.{◌≡◌, ◌∙◌, arith, false, subst, true}
 use Rattle.std.proofs.lemmas.Result.{err_from_is_err_and}
-use Rattle.snapshot_scan.specs.Scans.{IsSettled, ScanFailed}
-use Rattle.snapshot_scan.proofs.FillFacts.{fill_fails, fill_more, filled_all, none_damaged, none_due_all, settled_more}
+use Rattle.snapshot_scan.specs.Scans.{ScanFailed}
+use Rattle.snapshot_scan.proofs.FillFacts.{fill_fails, fill_more, filled_all, none_due_all, settled_more}
 use Rattle.snapshot_scan.proofs.feeds.fill.Goals as goal
 
 pub loop-i-preserved : goal.loop-i-preserved

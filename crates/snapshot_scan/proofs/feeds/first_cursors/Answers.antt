@@ -1,4 +1,4 @@
-use Rattle.std.proofs.Common.{◌≡◌, ◌∙◌, ◌+◌, ◌++◌, arith, length, sym, subst, slice_get}
+use Rattle.std.proofs.Common.{◌≡◌, ◌+◌, ◌++◌, arith, sym, subst, slice_get}
 use Rattle.rowsets.specs.Scans.{Piece, live_rows}
 use Rattle.snapshot_scan.specs.Parts.{IsPieceOf}
 use Rattle.snapshot_scan.specs.Scans.{IsCursor, rows_ahead}

@@ -1,5 +1,4 @@
-use Rattle.std.proofs.Common.{refl, sym, subst, slice_get, slice_set, Ok, Err}
-use Rattle.snapshot_scan.specs.Scans.{IsDue, IsSettled, ReadsDue}
+use Rattle.std.proofs.Common.{refl, Ok, Err}
 use Rattle.snapshot_scan.proofs.ListFacts.{get_other}
 use Rattle.snapshot_scan.proofs.CountingFacts.{part_most, part_once}
 use Rattle.snapshot_scan.proofs.StepFacts.{due_at, due_err, live_at, new_cursors, new_left, new_settled, no_piece_damaged, same_due, settled_at, still_cursors, still_pieces}

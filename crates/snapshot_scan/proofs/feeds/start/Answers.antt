@@ -1,4 +1,4 @@
-use Rattle.std.proofs.Common.{◌≡◌, ◌∙◌, ◌==◌, ap, arith, length, refl, sym, subst}
+use Rattle.std.proofs.Common.{◌∙◌, arith, length, refl, sym, subst}
 use Rattle.std.proofs.lemmas.Bool.{eqb-false}
 use Rattle.row_merge.specs.Brackets.{IsBracket}
 use Rattle.row_merge.specs.Cursors.{AllFit, front_at}

@@ -1,4 +1,4 @@
-use Rattle.std.proofs.Common.{◌∙◌, ap, arith, length, sym, subst}
+use Rattle.std.proofs.Common.{◌∙◌, ap, arith, length, subst}
 use Rattle.row_merge.specs.Brackets.{IsBracket}
 use Rattle.row_merge.specs.Cursors.{front_at}
 use Rattle.snapshot_scan.proofs.TakeFacts.{first_gives, first_played, first_taken, first_there}

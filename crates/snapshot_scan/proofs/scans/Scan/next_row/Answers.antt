@@ -1,4 +1,4 @@
-use Rattle.std.proofs.Common.{◌≡◌, ◌∙◌, ◌≤◌, ℕ, arith, slice_get, IfSome, List, None, Ok, Err, true, false, refl, sym, subst}
+use Rattle.std.proofs.Common.{◌≡◌, ◌∙◌, ◌≤◌, ℕ, arith, slice_get, IfSome, List, None, Ok, Err, true, false, sym, subst}
 use Rattle.pk_values.specs.declared.cells.Value.{Value}
 use Rattle.row_merge.specs.Cursors.{AllFit}
 use Rattle.snapshot_scan.specs.Scans.{AreToCome, Gives, HasLive, IsDue, IsPlayed, NoneDue, reads_in_all, ReadsDue, ScanView}
