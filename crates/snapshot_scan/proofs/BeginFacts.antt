@@ -1,10 +1,8 @@
 -- A scan begins with all rows of the map to come.
-use Rattle.std.proofs.Common.{◌≡◌, refl, ap, sym, subst, ◌∙◌, ℕ, zero, suc, ◌+◌, List, [], ◌∷◌, ◌++◌, map, length, Bool, true, false, cond, ◌==◌, IsTrue, get_or, arith}
+use Rattle.std.proofs.Common.{◌≡◌, refl, ap, sym, subst, ℕ, ◌+◌, List, [], ◌∷◌, ◌++◌, map, Bool, true, false, cond, ◌==◌, IsTrue}
 use Rattle.std.specs.List.{AllByRecursion, list_any}
-use Rattle.std.specs.Ordering.{is_lt}
 use Rattle.std.specs.FinMap.{values}
-use Rattle.pk_values.specs.Order.{key_cmp}
-use Rattle.pk_values.specs.Schemas.{Layout, key_of}
+use Rattle.pk_values.specs.Schemas.{Layout}
 use Rattle.pk_values.specs.declared.cells.Value.{Value}
 use Rattle.pk_model.specs.Tables.{Rows}
 use Rattle.segment_form.specs.Segments.{KeysRise}
@@ -13,7 +11,7 @@ use Rattle.row_merge.specs.Merge.{below, merge_all}
 use Rattle.row_merge.specs.Unions.{joined}
 use Rattle.row_merge.proofs.OrderFacts.{below_both}
 use Rattle.row_merge.proofs.UnionFacts.{merge_gives_map}
-use Rattle.snapshot_scan.specs.Parts.{PartView, IsPieceOf}
+use Rattle.snapshot_scan.specs.Parts.{PartView}
 use Rattle.snapshot_scan.specs.Snapshots.{ArePieces}
 
 abbrev Row : Type 0

@@ -10,12 +10,11 @@ use Rattle.column_page.specs.declared.footers.BlockMark.{BlockMark}
 use Rattle.column_page.specs.declared.footers.Footer.{Footer}
 use Rattle.column_page.proofs.FooterParts.{block_parts, footer_parts}
 use Rattle.segment_read.specs.Reads.{OfBlock}
-use Rattle.rowsets.specs.Scans.{Piece, alive, live_rows}
-use Rattle.row_merge.specs.Cursors.{CursorView, Fit}
-use Rattle.snapshot_scan.specs.Parts.{PartView, IsPieceOf, live_from, live_in}
+use Rattle.rowsets.specs.Scans.{Piece, alive}
+use Rattle.row_merge.specs.Cursors.{CursorView}
+use Rattle.snapshot_scan.specs.Parts.{PartView, live_from, live_in}
 use Rattle.snapshot_scan.specs.Scans.{HasLive, IsCursor, rows_ahead}
 use Rattle.snapshot_scan.proofs.ListFacts.{none_some, some_one}
-use Rattle.snapshot_scan.proofs.PartFacts.{piece_long}
 use Rattle.snapshot_scan.proofs.StreamFacts.{live_later, live_never, live_next, live_some}
 
 abbrev Row : Type 0
@@ -107,3 +106,8 @@ no_rows_fit s = All-nil (λ row. IsTrue (fits_row s row))
 -- the live rows of a block and those behind it
 pub on_block : (b : ℕ) (piece : Piece) (live : List Row) (o : Option ℕ) → live ≡ live_in b piece → rows_ahead o piece ≡ live_from (b + 1) piece → live ++ rows_ahead o piece ≡ live_from b piece
 on_block b piece live o here behind = ap (λ xs. xs ++ rows_ahead o piece) here ∙ ap (λ ys. live_in b piece ++ ys) behind ∙ sym (live_next b piece)
+
+-- the next block stands behind this one
+pub past : (b rows : ℕ) (o : Option ℕ) → IfSome o (λ n. (b + 1 ≤ n) × (n * 1024 < rows)) → IfSome o (λ n. b < n)
+past b rows None h = tt
+past b rows (Some n) h = let le = h.0 in omega arith

@@ -1,16 +1,15 @@
 -- The first blocks of all parts, read one after the other.
-use Rattle.std.proofs.Common.{◌≡◌, ◌≢◌, refl, ap, sym, subst, ◌∙◌, ◌⊎◌, inl, inr, ℕ, zero, suc, ◌+◌, ◌-◌, ◌^◌, ◌<◌, ◌≤◌, min, List, [], ◌∷◌, ◌++◌, length, length-append, map, slice_get, slice_set, Option, Some, None, Result, Ok, Err, IfErr, IsOk, arith}
+use Rattle.std.proofs.Common.{◌≡◌, refl, ap, sym, subst, ◌∙◌, ◌⊎◌, inl, inr, ℕ, zero, suc, ◌+◌, ◌-◌, ◌^◌, ◌<◌, ◌≤◌, min, List, [], ◌∷◌, ◌++◌, length, length-append, map, slice_get, Option, Some, None, Ok, Err, arith}
 use Rattle.pk_values.specs.Schemas.{Layout}
-use Rattle.pk_values.specs.declared.cells.Value.{Value}
 use Rattle.dev_traits.specs.Reader.{ReaderView}
 use Rattle.dev_traits.specs.declared.faults.ReadFault.{ReadFault}
 use Rattle.dev_traits.specs.declared.faults.ReadFault.TheVariants as read
-use Rattle.segment_read.specs.Reads.{HasFailed, HasRead, MayHaveRead, OnDamage, Reading}
+use Rattle.segment_read.specs.Reads.{HasFailed, HasRead, MayHaveRead, OnDamage}
 use Rattle.rowsets.specs.Scans.{Piece, live_rows}
 use Rattle.row_merge.specs.Cursors.{CursorView, due}
 use Rattle.snapshot_scan.specs.Parts.{PartView, IsPieceOf, read_by}
-use Rattle.snapshot_scan.specs.Scans.{AreCursors, IsBlockDamage, IsCursor, IsDue, IsSettled, HasLive, PartFailed, ReadsDue, ReadsEach, ReadsOnce, rows_ahead, rows_left, ScanFailed}
-use Rattle.snapshot_scan.specs.Snapshots.{ArePieces, ReadsPart, SnapshotView}
+use Rattle.snapshot_scan.specs.Scans.{AreCursors, IsCursor, IsDue, IsSettled, PartFailed, ReadsDue, ReadsOnce, rows_ahead, rows_left, ScanFailed}
+use Rattle.snapshot_scan.specs.Snapshots.{ArePieces, SnapshotView}
 use Rattle.snapshot_scan.proofs.ListFacts.{get_other, get_set, length-set, none_some, some_one}
 use Rattle.snapshot_scan.proofs.LeftFacts.{due_none, due_some, get_there, got_within}
 use Rattle.snapshot_scan.proofs.PartFacts.{on_damage}
@@ -62,10 +61,11 @@ filled_due s i b old mid new u filled reads = record {
   long = ap length reads.now ∙ length-set mid i (read_by reads.reader reads.part) ∙ filled.long;
   done = λ j part lt e. elim (same_place j i) [
     | inl g ↦
-        let is : reads.part ≡ part = some_one reads.part part (sym reads.there ∙ filled.ahead i (omega arith) ∙ ap (slice_get old) (sym g) ∙ e) in
-        (reads.reader,
-         ap (slice_get new) g ∙ ap (λ ps. slice_get ps i) reads.now ∙ get_set mid i reads.part (read_by reads.reader reads.part) reads.there ∙ ap (λ p. Some (read_by reads.reader p)) is,
-         subst (λ (p : PartView). MayHaveRead 1 p.reader reads.reader) is (read_once reads.part.reader reads.reader reads.how.0))
+        let is : reads.part ≡ part = some_one reads.part part (sym reads.there ∙ filled.ahead i (omega arith) ∙ ap (slice_get old) (sym g) ∙ e) in (
+          reads.reader,
+          ap (slice_get new) g ∙ ap (λ ps. slice_get ps i) reads.now ∙ get_set mid i reads.part (read_by reads.reader reads.part) reads.there ∙ ap (λ p. Some (read_by reads.reader p)) is,
+          subst (λ (p : PartView). MayHaveRead 1 p.reader reads.reader) is (read_once reads.part.reader reads.reader reads.how.0),
+        )
     | inr g ↦ let w = filled.done j part (omega arith) e in
         (w.0, ap (λ ps. slice_get ps j) reads.now ∙ get_other mid i j (read_by reads.reader reads.part) g ∙ w.1, w.2)
   ];
@@ -105,9 +105,9 @@ fill_failed v cs s i b fault old new filled are due reads = record { reads = rec
           let is : reads.part ≡ part = some_one reads.part part (sym there ∙ ap (slice_get old) (sym g) ∙ e) in
           (reads.reader, ap (slice_get new) g ∙ now ∙ ap (λ p. Some (read_by reads.reader p)) is, inr (subst (λ (p : PartView). HasFailed 1 p.reader reads.reader fault) is reads.how.0))
       | inr g ↦ elim (same_place (min j i) j) [
-          | inl h ↦ let w = filled.done j part (omega arith) e in (w.0, rest j g ∙ w.1, inl w.2)
-          | inr h ↦ (part.reader, rest j g ∙ filled.ahead j (omega arith) ∙ e, inl (unread part.reader))
-        ]
+        | inl h ↦ let w = filled.done j part (omega arith) e in (w.0, rest j g ∙ w.1, inl w.2)
+        | inr h ↦ (part.reader, rest j g ∙ filled.ahead j (omega arith) ∙ e, inl (unread part.reader))
+      ]
     ]
 
 -- no part failed, and memory was wanted

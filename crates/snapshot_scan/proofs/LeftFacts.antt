@@ -1,5 +1,5 @@
 -- What the parts of a scan have left, and what taking the first row leaves.
-use Rattle.std.proofs.Common.{◌≡◌, refl, ap, sym, subst, ◌∙◌, ◌⊎◌, inl, inr, ℕ, zero, suc, ◌+◌, ◌<◌, ◌≤◌, List, [], ◌∷◌, ◌++◌, length, drop, slice_get, slice_set, Option, Some, None, arith}
+use Rattle.std.proofs.Common.{◌≡◌, refl, ap, sym, subst, ◌∙◌, ℕ, zero, suc, ◌<◌, ◌≤◌, List, [], ◌∷◌, ◌++◌, length, drop, slice_get, slice_set, Option, Some, None, arith}
 use Rattle.std.specs.List.{AllByRecursion}
 use Rattle.pk_values.specs.Schemas.{Layout}
 use Rattle.pk_values.specs.declared.cells.Value.{Value}
@@ -10,9 +10,9 @@ use Rattle.row_merge.specs.Cursors.{AllFit, CursorView, due, Fit, front_at}
 use Rattle.row_merge.specs.Merge.{comes_before, head_at, head_of, merge_all}
 use Rattle.row_merge.proofs.MergeFacts.{merge_first, merge_none}
 use Rattle.snapshot_scan.specs.Parts.{PartView, IsPieceOf, read_by}
-use Rattle.snapshot_scan.specs.Scans.{AreCursors, Gives, IsDue, IsSettled, NoneDue, rows_ahead, rows_left, Taken}
+use Rattle.snapshot_scan.specs.Scans.{AreCursors, Gives, NoneDue, rows_ahead, rows_left}
 use Rattle.snapshot_scan.specs.Snapshots.{ArePieces, SnapshotView}
-use Rattle.snapshot_scan.proofs.ListFacts.{get_other, get_set, length-set, none_some, set_same, some_one}
+use Rattle.snapshot_scan.proofs.ListFacts.{none_some, set_same, some_one}
 use Rattle.snapshot_scan.proofs.PartFacts.{piece_still}
 
 abbrev Row : Type 0
@@ -92,10 +92,11 @@ left_taken : (cs : List CursorView) (pieces : List Piece) (w : ℕ) (c : CursorV
     → (t : List Row) × (slice_get (rows_left cs pieces) w ≡ Some (r ∷ t)) × (rows_left (slice_set cs w (one_less c)) pieces ≡ slice_set (rows_left cs pieces) w t)
 left_taken [] pieces w c r q long e f = absurd (none_some c e)
 left_taken (x ∷ cs) [] w c r q long e f = absurd (omega arith)
-left_taken (x ∷ cs) (piece ∷ pieces) zero c r q long e f =
-    (q ++ rows_ahead c.ahead piece,
-     ap (λ (y : CursorView). Some (y.rows ++ rows_ahead y.ahead piece)) (some_one x c e) ∙ ap (λ rows. Some (rows ++ rows_ahead c.ahead piece)) f,
-     ap (λ rows. (drop 1 rows ++ rows_ahead c.ahead piece) ∷ rows_left cs pieces) f)
+left_taken (x ∷ cs) (piece ∷ pieces) zero c r q long e f = (
+  q ++ rows_ahead c.ahead piece,
+  ap (λ (y : CursorView). Some (y.rows ++ rows_ahead y.ahead piece)) (some_one x c e) ∙ ap (λ rows. Some (rows ++ rows_ahead c.ahead piece)) f,
+  ap (λ rows. (drop 1 rows ++ rows_ahead c.ahead piece) ∷ rows_left cs pieces) f,
+)
 left_taken (x ∷ cs) (piece ∷ pieces) (suc w) c r q long e f =
     let more = left_taken cs pieces w c r q (omega arith) e f in
     (more.0, more.1, ap (λ ls. (x.rows ++ rows_ahead x.ahead piece) ∷ ls) more.2)

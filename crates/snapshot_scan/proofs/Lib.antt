@@ -10,3 +10,4 @@ pub mod TakeFacts
 pub mod FillFacts
 pub mod BeginFacts
 pub mod NextFacts
+pub mod CountingFacts

@@ -1,5 +1,5 @@
 -- A call for the next row: what it gives, and what it reads.
-use Rattle.std.proofs.Common.{◌≡◌, refl, ap, sym, subst, ◌∙◌, ◌⊎◌, inl, inr, ℕ, List, [], ◌∷◌, map, length, slice_get, Option, Some, None}
+use Rattle.std.proofs.Common.{◌≡◌, ap, sym, subst, ◌∙◌, inl, inr, ℕ, List, [], map, length, slice_get, Option, Some, None}
 use Rattle.std.specs.FinMap.{values}
 use Rattle.pk_values.specs.Schemas.{Layout}
 use Rattle.pk_values.specs.declared.cells.Value.{Value}
@@ -8,7 +8,7 @@ use Rattle.dev_traits.specs.declared.faults.ReadFault.{ReadFault}
 use Rattle.rowsets.specs.Scans.{Piece, live_rows}
 use Rattle.row_merge.specs.Cursors.{CursorView}
 use Rattle.row_merge.specs.Merge.{merge_all}
-use Rattle.snapshot_scan.specs.Scans.{AreToCome, Gives, IsDue, IsSettled, rows_left, ScanView}
+use Rattle.snapshot_scan.specs.Scans.{AreToCome, Gives, IsDue, IsSettled, rows_left}
 use Rattle.snapshot_scan.specs.Snapshots.{ArePieces, IsSnapshotOf, SnapshotView}
 use Rattle.snapshot_scan.proofs.BeginFacts.{scan_begins}
 use Rattle.snapshot_scan.proofs.LeftFacts.{pieces_long}

@@ -1,22 +1,21 @@
 -- Reading the block that is due, and taking a row, keep what holds of a scan.
-use Rattle.std.proofs.Common.{◌≡◌, refl, ap, sym, subst, ◌∙◌, ◌⊎◌, inl, inr, ℕ, zero, suc, ◌+◌, ◌<◌, ◌≤◌, ◌==◌, List, [], ◌∷◌, ◌++◌, length, drop, slice_get, slice_set, get_or, Option, Some, None, Bool, true, false, Result, Ok, Err, IfOk, IfErr, IfSome, All, IsTrue, arith}
+use Rattle.std.proofs.Common.{◌≡◌, refl, ap, sym, subst, ◌∙◌, ◌⊎◌, inl, inr, ℕ, ◌<◌, ◌==◌, List, [], ◌∷◌, ◌++◌, length, drop, slice_get, slice_set, get_or, Option, Some, None, true, false, Result, Ok, Err, IfOk, IfErr, IfSome, All, IsTrue, arith}
 use Rattle.std.proofs.lemmas.Bool.{eqb-true, eqb-false}
-use Rattle.std.proofs.lemmas.List.Elements.{All-nil, All-tail}
+use Rattle.std.proofs.lemmas.List.Elements.{All-tail}
 use Rattle.pk_values.specs.Schemas.{Layout, fits_row}
 use Rattle.pk_values.specs.declared.cells.Value.{Value}
 use Rattle.dev_traits.specs.Reader.{ReaderView}
 use Rattle.dev_traits.specs.declared.faults.ReadFault.{ReadFault}
-use Rattle.dev_traits.specs.declared.faults.Damaged.{Damaged}
 use Rattle.segment_read.specs.Reads.{OnDamage, Reading}
 use Rattle.rowsets.specs.Scans.{Piece}
 use Rattle.row_merge.specs.Brackets.{end, IsBracket, IsStale, start}
-use Rattle.row_merge.specs.Cursors.{CursorView, due, Fit, front_at}
+use Rattle.row_merge.specs.Cursors.{CursorView, due, front_at}
 use Rattle.row_merge.specs.declared.brackets.Bracket.{Bracket}
 use Rattle.row_merge.proofs.BracketFacts.{stale_of, stale_still}
 use Rattle.snapshot_scan.specs.Parts.{PartView, IsPieceOf, live_from, read_by}
 use Rattle.snapshot_scan.specs.Scans.{AreCursors, HasLive, IsCursor, IsDue, IsPlayed, IsSettled, NoneDue, ReadOn, ReadsDue, rows_ahead, rows_left, Taken}
 use Rattle.snapshot_scan.specs.Snapshots.{ArePieces, ReadsPart, SnapshotView}
-use Rattle.snapshot_scan.proofs.ListFacts.{at_index, get_other, get_set, length-set, none_some, some_one}
+use Rattle.snapshot_scan.proofs.ListFacts.{at_index, get_other, get_set, length-set, some_one}
 use Rattle.snapshot_scan.proofs.LeftFacts.{due_none, due_some, left_set, one_less, piece_there, pieces_set, same_front}
 use Rattle.snapshot_scan.proofs.PartFacts.{on_damage}
 

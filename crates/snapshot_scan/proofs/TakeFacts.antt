@@ -1,5 +1,5 @@
 -- The first row of all, taken by the bracket.
-use Rattle.std.proofs.Common.{◌≡◌, refl, ap, sym, subst, ◌∙◌, ℕ, ◌<◌, ◌≤◌, List, length, slice_get, slice_set, get_or, Option, arith}
+use Rattle.std.proofs.Common.{◌≡◌, ap, sym, subst, ℕ, ◌<◌, List, length, slice_set, get_or, Option}
 use Rattle.pk_values.specs.Schemas.{Layout}
 use Rattle.pk_values.specs.declared.cells.Value.{Value}
 use Rattle.rowsets.specs.Scans.{Piece}

@@ -1,5 +1,5 @@
 -- A scan under way, and the rows that it has still to give.
-use Rattle.std.specs.Prelude.{◌≡◌, ◌≢◌, ◌⊎◌, ℕ, ◌+◌, ◌*◌, ◌-◌, ◌<◌, ◌≤◌, List, [], ◌∷◌, ◌++◌, Option, Some, None, length, drop, slice_get, slice_set, false, ◌==◌, IfSome, IfNone, IfOk, IfErr, Result}
+use Rattle.std.specs.Prelude.{◌≡◌, ◌≢◌, ◌⊎◌, ℕ, ◌+◌, ◌*◌, ◌-◌, ◌<◌, ◌≤◌, List, [], ◌∷◌, ◌++◌, Option, Some, None, length, drop, map, slice_get, slice_set, false, ◌==◌, IfSome, IfNone, IfOk, IfErr, Result}
 use Rattle.std.specs.List.{list_any}
 use Rattle.pk_values.specs.Schemas.{Layout}
 use Rattle.pk_values.specs.declared.cells.Value.{Value}
@@ -10,13 +10,13 @@ use Rattle.dev_traits.specs.declared.faults.Damaged.{Damaged}
 use Rattle.dev_traits.specs.declared.faults.Part.TheVariants as place
 use Rattle.segment_read.specs.Blocks.{BlockShown}
 use Rattle.segment_read.specs.Reads.{block_in, HasFailed, IsDamage, MayHaveRead, OfBlock, OfFile, OnDamage, Reading}
-use Rattle.rowsets.specs.Scans.{Piece}
+use Rattle.rowsets.specs.Scans.{Piece, live_rows}
 use Rattle.row_merge.specs.Brackets.{end, IsStale, start}
 use Rattle.row_merge.specs.declared.brackets.Bracket.{Bracket}
 use Rattle.row_merge.specs.Cursors.{CursorView, Fit, front_at}
 use Rattle.row_merge.specs.Merge.{merge_all}
-use Rattle.snapshot_scan.specs.Parts.{PartView, IsPieceOf, live_from, read_by}
-use Rattle.snapshot_scan.specs.Snapshots.{ArePieces, ReadsPart, SnapshotView}
+use Rattle.snapshot_scan.specs.Parts.{PartView, IsPieceOf, live_from, read_by, ToldOfNoPiece}
+use Rattle.snapshot_scan.specs.Snapshots.{ArePieces, read_count, ReadsPart, SnapshotView}
 
 -- the snapshot, where the scan stands in each of its parts, and the fault that ended it
 pub record ScanView : Type 0 where
@@ -88,11 +88,13 @@ IsBlockDamage s part b = IsDamage part.number (place.Block b) (λ shown. OfFile 
 -- block b of a part was read, by one read, and the cursor stands at its live rows, of which there is one
 pub record ReadOn (s : Layout) (part : PartView) (b : ℕ) (reader : ReaderView) (result : Result CursorView ReadFault) : Type 0 where
   pub reading : Reading 1 part.reader reader result
+  pub within : b < length part.footer.blocks
+  pub onward : IfOk result (λ c. IfSome c.ahead (λ next. b < next))
   pub cursor : IfOk result (IsCursor s part)
   pub some : IfOk result (λ c. c.rows ≡ [] → ⊥)
   pub rows : IfOk result (λ c. (piece : Piece) → IsPieceOf s part piece → c.rows ++ rows_ahead c.ahead piece ≡ live_from b piece)
   pub damaged : IfErr result (λ e. OnDamage e (IsBlockDamage s part b))
-  pub intact : IfErr result (λ e. OnDamage e (λ damaged. (piece : Piece) → IsPieceOf s part piece → ⊥))
+  pub intact : IfErr result (ToldOfNoPiece s part)
 
 -- the block of part i that is due was read, by one read, and nothing else; why not, if it wasn't
 abbrev pub ReadsDue : {T : Type 0} → Layout → ℕ → ℕ → List PartView → List PartView → Result T ReadFault → Type 0
@@ -145,3 +147,52 @@ pub record PartFailed (s : Layout) (fault : ReadFault) (old new : List PartView)
 pub record ScanFailed (s : Layout) (fault : ReadFault) (old new : List PartView) : Type 0 where
   pub reads : ReadsEach old new (λ before now. MayHaveRead 1 before now ⊎ HasFailed 1 before now fault)
   pub cause : (fault ≢ read.Memory) → PartFailed s fault old new
+
+-- how many blocks there are
+abbrev pub block_count : List PartView → ℕ
+block_count [] = 0
+block_count (part ∷ parts) = length part.footer.blocks + block_count parts
+
+-- of so many blocks those from the next one on
+abbrev pub blocks_ahead : Option ℕ → ℕ → ℕ
+blocks_ahead None n = 0
+blocks_ahead (Some b) n = n - b
+
+abbrev pub blocks_left : List PartView → List CursorView → ℕ
+blocks_left [] cursors = 0
+blocks_left (part ∷ parts) [] = 0
+blocks_left (part ∷ parts) (c ∷ cursors) = blocks_ahead c.ahead (length part.footer.blocks) + blocks_left parts cursors
+
+-- the reads that were made, and those that it takes at most to read each block that is left once
+abbrev pub reads_in_all : List PartView → List CursorView → ℕ
+reads_in_all parts cursors = read_count parts + blocks_left parts cursors
+
+-- the readers tell the same files, and the parts have the same rows left
+abbrev pub KeepsLeft : SnapshotView → List CursorView → SnapshotView → List CursorView → Type 0
+KeepsLeft old cursors now new =
+    (pieces : List Piece) → ArePieces old.schema old.parts pieces
+    → ArePieces now.schema now.parts pieces × (rows_left new pieces ≡ rows_left cursors pieces)
+
+-- the readers tell the same files, and all their live rows are left
+abbrev pub LeavesAll : SnapshotView → SnapshotView → List CursorView → Type 0
+LeavesAll old now new =
+    (pieces : List Piece) → ArePieces old.schema old.parts pieces
+    → ArePieces now.schema now.parts pieces × (rows_left new pieces ≡ map live_rows pieces)
+
+-- damage isn't told where the files hold pieces
+abbrev pub ToldOfNoPieces : SnapshotView → ReadFault → Type 0
+ToldOfNoPieces v fault = OnDamage fault (λ damaged. (pieces : List Piece) → ArePieces v.schema v.parts pieces → ⊥)
+
+-- of what is left the first row is given, and then the others are left
+abbrev pub GivesLeft : Layout → List CursorView → Option (List Value) → List CursorView → Type 0
+GivesLeft s old row new =
+    (pieces : List Piece) → length pieces ≡ length old
+    → Gives row (merge_all s (rows_left old pieces)) (λ rest. rest ≡ merge_all s (rows_left new pieces))
+
+-- the cursor has all these rows of the part's file at hand and ahead
+abbrev pub HasLeft : Layout → PartView → (Piece → List (List Value)) → CursorView → Type 0
+HasLeft s part rows c = (piece : Piece) → IsPieceOf s part piece → c.rows ++ rows_ahead c.ahead piece ≡ rows piece
+
+-- a scan that was begun takes at most one read for each block
+abbrev pub ReadsAllOnce : List PartView → List PartView → List CursorView → Type 0
+ReadsAllOnce old now cursors = reads_in_all now cursors ≤ read_count old + block_count old

@@ -1,11 +1,12 @@
-ghost use Rattle.std.specs.Prelude.{◌≡◌, ◌<◌, ℕ, List, IfErr, IfOk, IsOk, OnErr, OnOk, None, length, map, slice_get};
+ghost use Rattle.std.specs.Prelude.{◌≡◌, ◌+◌, ◌<◌, ◌≤◌, ℕ, List, IfErr, IfOk, IsOk, OnErr, OnOk, None};
+ghost use Rattle.std.specs.Prelude.{length, map, slice_get};
 ghost use Rattle.rowsets.specs.Scans.{Piece};
 ghost use Rattle.rowsets.specs.Scans as scans;
 ghost use Rattle.row_merge.specs.Cursors.{AllFit};
-ghost use Rattle.row_merge.specs.Merge.{merge_all};
-ghost use Rattle.segment_read.specs.Reads.{OnDamage};
-ghost use Rattle.snapshot_scan.specs.Scans.{AreCursors, Gives, IsDue, IsPlayed, IsScanning, IsSettled, NoneDue, ReadsDue, ReadsOnce, rows_left, ScanFailed, Taken};
-ghost use Rattle.snapshot_scan.specs.Snapshots.{ArePieces};
+ghost use Rattle.snapshot_scan.specs.Scans.{AreCursors, GivesLeft, IsDue, IsPlayed, IsScanning, IsSettled, KeepsLeft};
+ghost use Rattle.snapshot_scan.specs.Scans.{LeavesAll, NoneDue, reads_in_all, ReadsAllOnce, ReadsDue, ReadsOnce};
+ghost use Rattle.snapshot_scan.specs.Scans.{rows_left, ScanFailed, Taken, ToldOfNoPieces};
+ghost use Rattle.snapshot_scan.specs.Snapshots.{ArePieces, read_count};
 
 use crate::snapshots::Snapshot;
 use dev_traits::{Memory, ReadFault, SealedReader};
@@ -25,14 +26,19 @@ pub fn refill<R: SealedReader>(
     ensures are { AreCursors snapshot.new cursors.new.items }
 
     // It has the rows left that it had.
-    ensures left { (pieces : List Piece) → ArePieces snapshot.old.schema snapshot.old.parts pieces → ArePieces snapshot.new.schema snapshot.new.parts pieces × (rows_left cursors.new.items pieces ≡ rows_left cursors.old.items pieces) }
-    ensures others { (j : ℕ) → (j ≡ i → ⊥) → slice_get cursors.new.items j ≡ slice_get cursors.old.items j }
+    ensures left { KeepsLeft snapshot.old cursors.old.items snapshot.new cursors.new.items }
+    ensures others { (j : ℕ) → (j ≡ i → ⊥)
+        → slice_get cursors.new.items j ≡ slice_get cursors.old.items j }
     ensures long { length cursors.new.items ≡ length cursors.old.items }
     ensures refused { OnErr result (cursors.new.items ≡ cursors.old.items) }
     ensures settled { OnOk result (IsSettled cursors.new.items i) }
     ensures at_hand { IsSettled cursors.old.items i → IsOk result × (snapshot.new ≡ snapshot.old) }
-    ensures read { (b : ℕ) → IsDue cursors.old.items i b → ReadsDue snapshot.old.schema i b snapshot.old.parts snapshot.new.parts result }
-    ensures intact { IfErr result (λ e. OnDamage e (λ damaged. (pieces : List Piece) → ArePieces snapshot.old.schema snapshot.old.parts pieces → ⊥)) }
+    ensures read { (b : ℕ) → IsDue cursors.old.items i b
+        → ReadsDue snapshot.old.schema i b snapshot.old.parts snapshot.new.parts result }
+    ensures most { read_count snapshot.new.parts ≤ read_count snapshot.old.parts + 1 }
+    ensures once { OnOk result (reads_in_all snapshot.new.parts cursors.new.items
+        ≤ reads_in_all snapshot.old.parts cursors.old.items) }
+    ensures intact { IfErr result (ToldOfNoPieces snapshot.old) }
     ensures version { snapshot.new.version ≡ snapshot.old.version }
     ensures schema { snapshot.new.schema ≡ snapshot.old.schema }
 {
@@ -58,7 +64,7 @@ pub fn take_first(
     requires fit { AllFit schema.now cursors.old.items }
     requires none_due { NoneDue cursors.old.items }
     requires played { IsPlayed schema.now cursors.old.items last bracket.old }
-    ensures gives { (pieces : List Piece) → length pieces ≡ length cursors.old.items → Gives result.0 (merge_all schema.now (rows_left cursors.old.items pieces)) (λ rest. rest ≡ merge_all schema.now (rows_left cursors.new.items pieces)) }
+    ensures gives { GivesLeft schema.now cursors.old.items result.0 cursors.new.items }
     ensures taken { Taken cursors.old.items result.1 cursors.new.items }
     ensures played { IsPlayed schema.now cursors.new.items result.1 bracket.new }
 {
@@ -74,7 +80,8 @@ fn first_cursors<R: SealedReader>(
     snapshot: &Snapshot<R>,
 ) -> Result<Vec<Cursor>, Memory>
     ensures are { IfOk result (λ cursors. AreCursors snapshot.now cursors.items) }
-    ensures left { IfOk result (λ cursors. (pieces : List Piece) → ArePieces snapshot.now.schema snapshot.now.parts pieces → rows_left cursors.items pieces ≡ map scans.live_rows pieces) }
+    ensures left { IfOk result (λ cursors.
+        (pieces : List Piece) → ArePieces snapshot.now.schema snapshot.now.parts pieces → rows_left cursors.items pieces ≡ map scans.live_rows pieces) }
 {
     let parts = snapshot.segments();
     let mut cursors = Vec::with_capacity(alloc, parts as usize)?;
@@ -93,10 +100,13 @@ fn fill<R: SealedReader>(
     requires are { AreCursors snapshot.old cursors.old.items }
     ensures are { OnOk result (AreCursors snapshot.new cursors.new.items) }
     ensures none_due { OnOk result (NoneDue cursors.new.items) }
-    ensures left { OnOk result ((pieces : List Piece) → ArePieces snapshot.old.schema snapshot.old.parts pieces → ArePieces snapshot.new.schema snapshot.new.parts pieces × (rows_left cursors.new.items pieces ≡ rows_left cursors.old.items pieces)) }
+    ensures left { OnOk result (KeepsLeft snapshot.old cursors.old.items snapshot.new cursors.new.items) }
     ensures reads { OnOk result (ReadsOnce snapshot.old.parts snapshot.new.parts) }
-    ensures failed { IfErr result (λ e. ScanFailed snapshot.old.schema e snapshot.old.parts snapshot.new.parts) }
-    ensures intact { IfErr result (λ e. OnDamage e (λ damaged. (pieces : List Piece) → ArePieces snapshot.old.schema snapshot.old.parts pieces → ⊥)) }
+    ensures once { OnOk result (reads_in_all snapshot.new.parts cursors.new.items
+        ≤ reads_in_all snapshot.old.parts cursors.old.items) }
+    ensures failed { IfErr result (λ e.
+        ScanFailed snapshot.old.schema e snapshot.old.parts snapshot.new.parts) }
+    ensures intact { IfErr result (ToldOfNoPieces snapshot.old) }
     ensures version { snapshot.new.version ≡ snapshot.old.version }
     ensures schema { snapshot.new.schema ≡ snapshot.old.schema }
 {
@@ -112,10 +122,12 @@ pub fn start<R: SealedReader>(
     snapshot: &mut Snapshot<R>,
 ) -> Result<(Vec<Cursor>, Option<Bracket>), ReadFault>
     ensures are { IfOk result (λ begun. IsScanning snapshot.new begun.0.items begun.1 0 None) }
-    ensures left { IfOk result (λ begun. (pieces : List Piece) → ArePieces snapshot.old.schema snapshot.old.parts pieces → ArePieces snapshot.new.schema snapshot.new.parts pieces × (rows_left begun.0.items pieces ≡ map scans.live_rows pieces)) }
+    ensures left { IfOk result (λ begun. LeavesAll snapshot.old snapshot.new begun.0.items) }
     ensures reads { OnOk result (ReadsOnce snapshot.old.parts snapshot.new.parts) }
-    ensures failed { IfErr result (λ e. ScanFailed snapshot.old.schema e snapshot.old.parts snapshot.new.parts) }
-    ensures intact { IfErr result (λ e. OnDamage e (λ damaged. (pieces : List Piece) → ArePieces snapshot.old.schema snapshot.old.parts pieces → ⊥)) }
+    ensures once { IfOk result (λ begun. ReadsAllOnce snapshot.old.parts snapshot.new.parts begun.0.items) }
+    ensures failed { IfErr result (λ e.
+        ScanFailed snapshot.old.schema e snapshot.old.parts snapshot.new.parts) }
+    ensures intact { IfErr result (ToldOfNoPieces snapshot.old) }
     ensures version { snapshot.new.version ≡ snapshot.old.version }
     ensures schema { snapshot.new.schema ≡ snapshot.old.schema }
 {

@@ -1,14 +1,12 @@
-ghost use Rattle.std.specs.Prelude.{◌≡◌, ◌+◌, ◌<◌, ◌≤◌, ◌*◌, All, IfOk, IfErr, IsTrue, [], ◌++◌, ℕ, length};
-ghost use Rattle.dev_traits.specs.declared.faults.Part.TheVariants as place;
+ghost use Rattle.std.specs.Prelude.{◌≡◌, ◌+◌, ◌<◌, ◌≤◌, ◌*◌, All, IfOk, IfErr, IsTrue, [], length};
 ghost use Rattle.dev_traits.specs.declared.faults.ReadFault.TheVariants as read;
-ghost use Rattle.segment_read.specs.Blocks.{BlockShown};
-ghost use Rattle.segment_read.specs.Reads.{block_in, IsDamage, OfBlock, OfFile, OnDamage, Reading};
+ghost use Rattle.segment_read.specs.Reads.{OnDamage, Reading};
 ghost use Rattle.segment_read.specs.Rows.{IsRowsDamage};
-ghost use Rattle.rowsets.specs.Scans.{Piece, alive};
+ghost use Rattle.rowsets.specs.Scans.{alive};
 ghost use Rattle.rowsets.specs.Scans as scans;
 ghost use Rattle.pk_values.specs.Schemas.{fits_row, Layout};
-ghost use Rattle.snapshot_scan.specs.Parts.{IsPart, IsPieceOf, live_in, read_by, seen};
-ghost use Rattle.snapshot_scan.specs.Scans.{HasLive, IsCursor, ReadOn, rows_ahead};
+ghost use Rattle.snapshot_scan.specs.Parts.{AreLive, AreLiveIn, IsPart, read_by, seen, ToldOfNoPiece};
+ghost use Rattle.snapshot_scan.specs.Scans.{HasLeft, HasLive, IsBlockDamage, IsCursor, ReadOn};
 
 use crate::live::{live_rows, next_live};
 use del_vector::DelVector;
@@ -44,10 +42,9 @@ pub fn live_block<R: SealedReader>(
 ) -> Result<Vec<Row>, ReadFault>
     requires part { IsPart schema.now (seen R.view part.old) }
     requires there { b < length part.old.0.footer.blocks }
-    ensures live { IfOk result (λ live. (piece : Piece) → IsPieceOf schema.now (seen R.view part.old) piece → live.items ≡ live_in b piece) }
-    ensures damaged { IfErr result (λ e. OnDamage e (IsDamage part.old.0.number (place.Block b) (λ shown.
-        OfFile (R.view part.old.0.reader) (λ file. OfBlock part.old.0.footer b (λ mark. BlockShown schema.now mark (block_in file mark) shown))))) }
-    ensures intact { IfErr result (λ e. OnDamage e (λ damaged. (piece : Piece) → IsPieceOf schema.now (seen R.view part.old) piece → ⊥)) }
+    ensures live { IfOk result (λ live. AreLiveIn schema.now (seen R.view part.old) b live.items) }
+    ensures damaged { IfErr result (λ e. OnDamage e (IsBlockDamage schema.now (seen R.view part.old) b)) }
+    ensures intact { IfErr result (ToldOfNoPiece schema.now (seen R.view part.old)) }
     ensures fit { IfOk result (λ live. All (λ row. IsTrue (fits_row schema.now row)) live.items) }
 
     // A block with a live row gives one.
@@ -69,10 +66,12 @@ pub fn live_part<R: SealedReader>(
     part: &mut (Segment<R>, DelVector),
 ) -> Result<Vec<Row>, ReadFault>
     requires part { IsPart schema.now (seen R.view part.old) }
-    ensures live { IfOk result (λ live. (piece : Piece) → IsPieceOf schema.now (seen R.view part.old) piece → live.items ≡ scans.live_rows piece) }
-    ensures damaged { IfErr result (λ e. OnDamage e (IsRowsDamage schema.now part.old.0.footer part.old.0.number (R.view part.old.0.reader))) }
-    ensures intact { IfErr result (λ e. OnDamage e (λ damaged. (piece : Piece) → IsPieceOf schema.now (seen R.view part.old) piece → ⊥)) }
-    ensures reading { Reading (length part.old.0.footer.blocks) (R.view part.old.0.reader) (R.view part.new.0.reader) result }
+    ensures live { IfOk result (λ live. AreLive schema.now (seen R.view part.old) live.items) }
+    ensures damaged { IfErr result (λ e.
+        OnDamage e (IsRowsDamage schema.now part.old.0.footer part.old.0.number (R.view part.old.0.reader))) }
+    ensures intact { IfErr result (ToldOfNoPiece schema.now (seen R.view part.old)) }
+    ensures reading { Reading (length part.old.0.footer.blocks) (R.view part.old.0.reader)
+        (R.view part.new.0.reader) result }
     ensures kept { seen R.view part.new ≡ read_by (R.view part.new.0.reader) (seen R.view part.old) }
     ensures part { IsPart schema.now (seen R.view part.new) }
 {
@@ -85,7 +84,7 @@ pub fn live_part<R: SealedReader>(
 /// The cursor before all live rows. It reads nothing.
 pub fn first_cursor<R: SealedReader>(alloc: Global, part: &(Segment<R>, DelVector)) -> Cursor
     ensures cursor { (s : Layout) → IsCursor s (seen R.view part.now) result }
-    ensures rows { (s : Layout) (piece : Piece) → IsPieceOf s (seen R.view part.now) piece → result.rows ++ rows_ahead result.ahead piece ≡ scans.live_rows piece }
+    ensures rows { (s : Layout) → HasLeft s (seen R.view part.now) scans.live_rows result }
 {
     let rows = part.0.footer.fields().rows;
     Cursor::before(alloc, next_live(&part.1, rows, 0))

@@ -1,10 +1,12 @@
-ghost use Rattle.std.specs.Prelude.{◌≡◌, ℕ, List, IfErr, IfOk, IfSome, IsOk, None, OnErr, Err, ◌-◌, ◌^◌, min};
+ghost use Rattle.std.specs.Prelude.{◌≡◌, ◌+◌, ◌-◌, ◌^◌, ◌≤◌, ℕ, List, IfErr, IfOk, IfSome, IsOk, None, OnErr, OnOk};
+ghost use Rattle.std.specs.Prelude.{Err, min, slice_get};
 ghost use Rattle.std.specs.FinMap.{values};
 ghost use Rattle.pk_model.specs.Tables.{Rows};
 ghost use Rattle.pk_values.specs.declared.cells.Value.{Value};
 ghost use Rattle.segment_read.specs.Reads.{OnDamage};
-ghost use Rattle.snapshot_scan.specs.Scans.{AreToCome, Gives, IsDue, IsKept, NoneDue, ReadsDue, ReadsOnce, ScanFailed, ScanView};
-ghost use Rattle.snapshot_scan.specs.Snapshots.{fault_count, IsSnapshotOf};
+ghost use Rattle.snapshot_scan.specs.Scans.{AreToCome, Gives, HasLive, IsDue, IsKept, NoneDue, reads_in_all};
+ghost use Rattle.snapshot_scan.specs.Scans.{ReadsAllOnce, ReadsDue, ReadsOnce, ScanFailed, ScanView};
+ghost use Rattle.snapshot_scan.specs.Snapshots.{fault_count, IsSnapshotOf, read_count};
 
 use crate::feeds::{refill, start, take_first};
 use crate::snapshots::Snapshot;
@@ -47,6 +49,9 @@ impl<R: SealedReader> Snapshot<R> {
         ensures rows { IfOk result (λ scan. (m : Rows) → IsSnapshotOf self m → AreToCome scan (values m)) }
         ensures unfailed { IfOk result (λ scan. scan.fault ≡ None) }
         ensures reads { IfOk result (λ scan. ReadsOnce self.parts scan.snapshot.parts) }
+
+        // The whole scan takes at most one read for each block.
+        ensures once { IfOk result (λ scan. ReadsAllOnce self.parts scan.snapshot.parts scan.cursors) }
         ensures version { IfOk result (λ scan. scan.snapshot.version ≡ self.version) }
         ensures schema { IfOk result (λ scan. scan.snapshot.schema ≡ self.schema) }
         ensures failed { IfErr result (λ e. ScanFailed self.schema e.1 self.parts e.0.parts) }
@@ -89,20 +94,34 @@ impl<R: SealedReader> Scan<R> {
     /// than `Memory` is answered again by each later call, which reads nothing.
     pub fn next_row(&mut self, alloc: Global) -> Result<Option<Row>, ReadFault>
         // It gives the first of the rows to come, and the others are to come then; None where no row is left.
-        ensures gives { IfOk result (λ row. (rows : List (List Value)) → AreToCome self.old rows → Gives row rows (AreToCome self.new)) }
-        ensures stays { OnErr result ((rows : List (List Value)) → AreToCome self.old rows → AreToCome self.new rows) }
+        ensures gives { IfOk result (λ row. (rows : List (List Value)) → AreToCome self.old rows
+            → Gives row rows (AreToCome self.new)) }
+        ensures stays { OnErr result ((rows : List (List Value)) → AreToCome self.old rows
+            → AreToCome self.new rows) }
         ensures again { IfSome self.old.fault (λ fault. (result ≡ Err fault) × (self.new ≡ self.old)) }
         ensures kept { IfErr result (λ fault. IsKept fault self.new.fault) }
         ensures unfailed { IfOk result (λ row. self.new.fault ≡ None) }
 
         // Where no block is due nothing is read, and nothing fails.
-        ensures at_hand { self.old.fault ≡ None → NoneDue self.old.cursors → IsOk result × (self.new.snapshot ≡ self.old.snapshot) }
+        ensures at_hand { self.old.fault ≡ None → NoneDue self.old.cursors
+            → IsOk result × (self.new.snapshot ≡ self.old.snapshot) }
+
+        // The block that is due has a live row.
+        ensures live { (i b : ℕ) → IsDue self.old.cursors i b
+            → IfSome (slice_get self.old.snapshot.parts i) (λ part. HasLive part.footer.rows part.dead b) }
+
+        // At most one block is read in all; and where that goes well, it isn't read again.
+        ensures most { read_count self.new.snapshot.parts ≤ read_count self.old.snapshot.parts + 1 }
+        ensures once { OnOk result (reads_in_all self.new.snapshot.parts self.new.cursors
+            ≤ reads_in_all self.old.snapshot.parts self.old.cursors) }
 
         // The block that is due is read, by one read, and no other.
-        ensures due { self.old.fault ≡ None → (i b : ℕ) → IsDue self.old.cursors i b → ReadsDue self.old.snapshot.schema i b self.old.snapshot.parts self.new.snapshot.parts result }
+        ensures due { self.old.fault ≡ None → (i b : ℕ) → IsDue self.old.cursors i b
+            → ReadsDue self.old.snapshot.schema i b self.old.snapshot.parts self.new.snapshot.parts result }
 
         // No damage is told where all files are those of segments.
-        ensures intact { self.old.fault ≡ None → IfErr result (λ e. OnDamage e (λ damaged. (rows : List (List Value)) → AreToCome self.old rows → ⊥)) }
+        ensures intact { self.old.fault ≡ None → IfErr result (λ e. OnDamage e (λ damaged.
+            (rows : List (List Value)) → AreToCome self.old rows → ⊥)) }
         ensures version { self.new.snapshot.version ≡ self.old.snapshot.version }
         ensures schema { self.new.snapshot.schema ≡ self.old.snapshot.schema }
     {

@@ -1,7 +1,7 @@
-use Rattle.std.proofs.Common.{◌≡◌, ◌∙◌, ◌<◌, ◌≤◌, ap, arith, false, length, refl, sym, subst, true}
+use Rattle.std.proofs.Common.{◌≡◌, ◌∙◌, arith, false, subst, true}
 use Rattle.std.proofs.lemmas.Result.{err_from_is_err_and}
-use Rattle.snapshot_scan.specs.Scans.{IsSettled, ScanFailed}
-use Rattle.snapshot_scan.proofs.FillFacts.{fill_fails, fill_more, filled_all, none_damaged, none_due_all, settled_more}
+use Rattle.snapshot_scan.specs.Scans.{ScanFailed}
+use Rattle.snapshot_scan.proofs.FillFacts.{fill_fails, fill_more, filled_all, none_due_all, settled_more}
 use Rattle.snapshot_scan.proofs.feeds.fill.Goals as goal
 
 pub loop-i-preserved : goal.loop-i-preserved
@@ -18,6 +18,7 @@ loop-i-preserved g c =
       settled = settled_more c.loop-i.cursors.items c.refill.new.cursors.items c.loop-i.i inv.settled ok.others ok.settled;
       left = λ pieces told. let a = inv.left pieces told in let b = ok.left pieces a.0 in (b.0, b.1 ∙ a.1);
       filled = fill_more c.loop-i.snapshot.schema c.loop-i.cursors.items c.loop-i.i c.args.snapshot.now.parts c.loop-i.snapshot c.refill.new.snapshot c.in_ok-refill.field-0 inv.filled (omega arith) (λ h. (ok.at_hand h).1) ok.read;
+      once = let more = ok.once in let before = inv.once in omega arith;
       version = ok.version ∙ inv.version;
       schema = ok.schema ∙ inv.schema;
     }

@@ -1,4 +1,4 @@
-use Rattle.std.proofs.Common.{◌≡◌, ◌∙◌, ◌+◌, ◌++◌, arith, length, sym, subst, slice_get}
+use Rattle.std.proofs.Common.{◌≡◌, ◌+◌, ◌++◌, arith, sym, subst, slice_get}
 use Rattle.rowsets.specs.Scans.{Piece, live_rows}
 use Rattle.snapshot_scan.specs.Parts.{IsPieceOf}
 use Rattle.snapshot_scan.specs.Scans.{IsCursor, rows_ahead}
@@ -11,12 +11,11 @@ pub loop-i-preserved : goal.loop-i-preserved
 loop-i-preserved g c =
     let test = c.loop-i-test.true in
     let count = c.segments-parts.ensures in
-    let v = c.args.snapshot.now in
-    let at = get_there v.parts c.loop-i.i (omega arith) in
-    subst (AreFirst v (c.loop-i.i + 1)) (sym c.in_ok-push.ensures.items)
-    (first_more v c.loop-i.i c.loop-i.cursors.items c.first_cursor.result at.0 c.loop-i.invariant at.1
-    (from_at (slice_get v.parts c.loop-i.i) at.0 (λ part. IsCursor v.schema part c.first_cursor.result) at.1 c.first_cursor.ensures.cursor)
-    (from_at (slice_get v.parts c.loop-i.i) at.0 (λ part. (piece : Piece) → IsPieceOf v.schema part piece → c.first_cursor.result.rows ++ rows_ahead c.first_cursor.result.ahead piece ≡ live_rows piece) at.1 c.first_cursor.ensures.rows))
+    let at = get_there c.args.snapshot.now.parts c.loop-i.i (omega arith) in
+    subst (AreFirst c.args.snapshot.now (c.loop-i.i + 1)) (sym c.in_ok-push.ensures.items)
+    (first_more c.args.snapshot.now c.loop-i.i c.loop-i.cursors.items c.first_cursor.result at.0 c.loop-i.invariant at.1
+    (from_at (slice_get c.args.snapshot.now.parts c.loop-i.i) at.0 (λ part. IsCursor c.args.snapshot.now.schema part c.first_cursor.result) at.1 c.first_cursor.ensures.cursor)
+    (from_at (slice_get c.args.snapshot.now.parts c.loop-i.i) at.0 (λ part. (piece : Piece) → IsPieceOf c.args.snapshot.now.schema part piece → c.first_cursor.result.rows ++ rows_ahead c.first_cursor.result.ahead piece ≡ live_rows piece) at.1 c.first_cursor.ensures.rows))
 
 pub returns-clause-left : goal.returns-clause-left
 returns-clause-left g c =

@@ -1,8 +1,9 @@
-use Rattle.std.proofs.Common.{◌≡◌, ◌∙◌, ◌==◌, ap, arith, length, refl, sym, subst}
+use Rattle.std.proofs.Common.{◌∙◌, arith, length, refl, sym, subst}
 use Rattle.std.proofs.lemmas.Bool.{eqb-false}
 use Rattle.row_merge.specs.Brackets.{IsBracket}
 use Rattle.row_merge.specs.Cursors.{AllFit, front_at}
 use Rattle.row_merge.proofs.BracketFacts.{stale_of}
+use Rattle.snapshot_scan.proofs.CountingFacts.{left_few}
 use Rattle.snapshot_scan.proofs.LeftFacts.{all_fit}
 use Rattle.snapshot_scan.proofs.feeds.start.Goals as goal
 
@@ -32,3 +33,15 @@ returns-clause-are g c =
       empty = tt;
       lasts = tt;
     }
+
+pub returns-clause-once : goal.returns-clause-once
+returns-clause-once g c =
+    let few = left_few c.args.snapshot.now.parts c.in_ok-cursors.cursors.items in
+    let once = c.in_ok-fill.ensures.once in
+    omega arith
+
+pub returns-then-is_empty-clause-once : goal.returns-then-is_empty-clause-once
+returns-then-is_empty-clause-once g c =
+    let few = left_few c.args.snapshot.now.parts c.in_ok-cursors.cursors.items in
+    let once = c.in_ok-fill.ensures.once in
+    omega arith

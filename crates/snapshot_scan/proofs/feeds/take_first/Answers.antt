@@ -1,4 +1,4 @@
-use Rattle.std.proofs.Common.{◌∙◌, ap, arith, length, sym, subst}
+use Rattle.std.proofs.Common.{◌∙◌, ap, arith, length, subst}
 use Rattle.row_merge.specs.Brackets.{IsBracket}
 use Rattle.row_merge.specs.Cursors.{front_at}
 use Rattle.snapshot_scan.proofs.TakeFacts.{first_gives, first_played, first_taken, first_there}
@@ -7,8 +7,8 @@ use Rattle.snapshot_scan.proofs.feeds.take_first.Goals as goal
 pub index_mut-requires : goal.index_mut-requires
 index_mut-requires c =
     let there = first_there c.args.schema.now c.args.cursors.now.items c.replay.new.self c.first-first.result
-        (subst (λ cs. IsBracket c.args.schema.now (front_at cs) (length cs) c.replay.new.self) c.deref.ensures.value c.replay.ensures.played)
-        (c.replay.ensures.start ∙ c.requires.played.from) (c.replay.ensures.end ∙ c.requires.played.to) c.first-first.ensures in
+    (subst (λ cs. IsBracket c.args.schema.now (front_at cs) (length cs) c.replay.new.self) c.deref.ensures.value c.replay.ensures.played)
+    (c.replay.ensures.start ∙ c.requires.played.from) (c.replay.ensures.end ∙ c.requires.played.to) c.first-first.ensures in
     let long = ap length c.deref.ensures.value in
     let same = c.deref.ensures.len in
     omega arith

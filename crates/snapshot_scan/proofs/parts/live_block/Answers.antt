@@ -1,4 +1,4 @@
-use Rattle.std.proofs.Common.{refl, arith, length, sym, subst, ◌∙◌, ◌*◌, All, IsTrue, IfOk}
+use Rattle.std.proofs.Common.{refl, arith, length, sym, subst, ◌∙◌, ◌*◌, All, IsTrue}
 use Rattle.pk_values.specs.Schemas.{fits_row}
 use Rattle.segment_read.proofs.Scanning.{if_ok_so}
 use Rattle.snapshot_scan.specs.Parts.{seen}

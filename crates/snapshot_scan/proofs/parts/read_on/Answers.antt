@@ -1,9 +1,9 @@
-use Rattle.std.proofs.Common.{◌∙◌, ◌+◌, ap, sym, subst, IfSome}
+use Rattle.std.proofs.Common.{◌∙◌, ◌+◌, ◌<◌, ap, sym, subst, IfSome}
 use Rattle.column_page.specs.declared.footers.FooterFields.{FooterFields}
 use Rattle.row_merge.specs.Cursors.{CursorView}
 use Rattle.snapshot_scan.specs.Parts.{PartView, seen}
 use Rattle.snapshot_scan.specs.Scans.{HasLive}
-use Rattle.snapshot_scan.proofs.CursorFacts.{ahead_is, cursor_is, cursor_rows, has_live, live_there, on_block}
+use Rattle.snapshot_scan.proofs.CursorFacts.{ahead_is, cursor_is, cursor_rows, has_live, live_there, on_block, past}
 use Rattle.snapshot_scan.proofs.PartFacts.{piece_long}
 use Rattle.snapshot_scan.proofs.parts.read_on.Goals as goal
 
@@ -17,6 +17,8 @@ returns-in-Ok-clause-read g c =
     let rows = ap (λ (f : FooterFields). f.rows) c.fields.ensures.fields in
     record {
       reading = c.in-Ok.ensures.reading;
+      within = live_there c.args.part.now.0.footer c.args.part.now.1 c.args.b c.requires.part.is c.requires.live;
+      onward = subst (λ (d : CursorView). IfSome d.ahead (λ n. c.args.b < n)) (sym c.at.ensures) (past c.args.b c.fields.result.now.rows c.next_live.result c.next_live.ensures.there);
       cursor = cursor_is c.args.schema.now (seen view c.args.part.now) c.at.result c.in-Ok.live.items c.next_live.result c.at.ensures c.in-Ok.ensures.fit
           (subst (λ n. IfSome c.next_live.result (HasLive n c.args.part.now.1)) rows
           (subst (λ ds. IfSome c.next_live.result (HasLive c.fields.result.now.rows ds)) dead
@@ -29,3 +31,15 @@ returns-in-Ok-clause-read g c =
       damaged = tt;
       intact = tt;
     }
+
+pub returns-in-Err-clause-read : goal.returns-in-Err-clause-read
+returns-in-Err-clause-read g c = record {
+  reading = c.in-Err.ensures.reading;
+  within = live_there c.args.part.now.0.footer c.args.part.now.1 c.args.b c.requires.part.is c.requires.live;
+  onward = tt;
+  cursor = tt;
+  some = tt;
+  rows = tt;
+  damaged = c.in-Err.ensures.damaged;
+  intact = c.in-Err.ensures.intact;
+}
