@@ -24,7 +24,7 @@ missing n (f ∷ files) h = by (missing n files) (f.file == n) h
     by rest true k = cc
     by rest false k = rest k
 
-or_else : Option ListedFile → Option ListedFile → Option ListedFile
+abbrev or_else : Option ListedFile → Option ListedFile → Option ListedFile
 or_else (Some f) o = Some f
 or_else None o = o
 

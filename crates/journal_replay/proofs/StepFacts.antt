@@ -1,5 +1,5 @@
 -- What a replay has after each record.
-use Rattle.std.proofs.Common.{◌≡◌, refl, ap, sym, subst, ◌∙◌, ℕ, ◌+◌, ◌-◌, ◌≤◌, ◌<◌, suc, zero, arith, List, [], ◌∷◌, ◌++◌, map, take, drop, length, Bool, true, false, ◌&&◌, not, nat_le, nat_lt, ◌==◌, if◌then◌else◌, Option, Some, None, is_some, length-append, append_assoc}
+use Rattle.std.proofs.Common.{◌≡◌, refl, ap, sym, subst, ◌∙◌, ℕ, ◌+◌, ◌-◌, ◌≤◌, ◌<◌, suc, zero, arith, List, [], ◌∷◌, ◌++◌, map, take, drop, length, Bool, true, false, ◌&&◌, not, nat_le, nat_lt, ◌==◌, if◌then◌else◌, Option, Some, None, is_some, IsTrue, length-append, append_assoc}
 use Rattle.std.specs.Option.{option_map}
 use Rattle.std.specs.List.{flat_map}
 use Rattle.std.specs.BTreeMap.{get}
@@ -15,13 +15,15 @@ use Rattle.journal_form.specs.declared.records.Record.{Record}
 use Rattle.journal_form.specs.declared.records.Record.TheVariants.{Create, Publish, Compact, Floor, Levels, Checkpoint}
 use Rattle.journal_form.specs.Versions.{Rowset, Versions, above, all_below, bound, changes_fit, compact_fits, compacted, compacted_rowsets, consecutive, current_number, files_fit, files_of, floor_fits, levels_fit, marked, marked_file, new_rowset, numbers_of, publish_fits, published, published_rowsets, raised, whole_file}
 use Rattle.journal_form.specs.Meaning.{Standing, created, distinct, entries_above, is_form, kept_above, most_file, no_versions, opens, step, step_at}
+use Rattle.journal_form.specs.Standings.{is_built}
 use Rattle.journal_form.proofs.Parts.{then_some}
+use Rattle.journal_form.proofs.StepFacts.{steps_count}
 use Rattle.journal_form.proofs.Numbers.{all_from, below_more, distinct_end}
 use Rattle.journal_form.proofs.GoodFiles.{AreGood, compacted_good, consecutive-from, files_of-append, files_of-marked, files_of-new, good_drop, marked_good, numbers, numbers-append, numbers-marked, published_good}
 use Rattle.journal_replay.specs.declared.replay.Replay.{Replay}
 use Rattle.journal_replay.specs.declared.span.Span.{Span}
 use Rattle.journal_replay.specs.Lookups.{Finds, Lookup, added, all_take, counted_from, listed_as, marks, span_numbers, without}
-use Rattle.journal_replay.specs.Follow.{Follows, HasCompacted, HasCurrent, HasPublished, Moves, compact_takes, files_left, new_spans, numbers_in, publish_takes}
+use Rattle.journal_replay.specs.Follow.{Follows, Goes, HasCompacted, HasCurrent, HasPublished, HasRaised, Moves, compact_takes, files_left, new_rowset_numbers, all_numbers, option_spans, numbers_in, publish_takes}
 use Rattle.journal_replay.proofs.LookupFacts.{added_finds, all_take_is, finds_ext, finds_swap, marks_find, without_finds}
 
 -- ---- rowsets by the numbers of their files
@@ -34,19 +36,10 @@ numbers_in-append : (xs ys : List Rowset) → map numbers_in (xs ++ ys) ≡ map 
 numbers_in-append [] ys = refl
 numbers_in-append (x ∷ xs) ys = ap (λ (t : List (List ℕ)). numbers_in x ∷ t) (numbers_in-append xs ys)
 
-spans-append : (xs ys : List Span) → map span_numbers (xs ++ ys) ≡ map span_numbers xs ++ map span_numbers ys
-spans-append [] ys = refl
-spans-append (x ∷ xs) ys = ap (λ (t : List (List ℕ)). span_numbers x ∷ t) (spans-append xs ys)
-
 numbers_in-drop : (k : ℕ) (xs : List Rowset) → map numbers_in (drop k xs) ≡ drop k (map numbers_in xs)
 numbers_in-drop zero xs = refl
 numbers_in-drop (suc k) [] = refl
 numbers_in-drop (suc k) (x ∷ xs) = numbers_in-drop k xs
-
-spans-drop : (k : ℕ) (xs : List Span) → map span_numbers (drop k xs) ≡ drop k (map span_numbers xs)
-spans-drop zero xs = refl
-spans-drop (suc k) [] = refl
-spans-drop (suc k) (x ∷ xs) = spans-drop k xs
 
 counted : (k : ℕ) (files : List NewFile) → consecutive k files ≡ true → numbers (map whole_file files) ≡ counted_from k (length files)
 counted k [] h = refl
@@ -55,7 +48,7 @@ counted k (f ∷ files) h =
     let e = eqb-true f.file k p.0 in
     λ i. e i ∷ counted (k + 1) files p.1 i
 
-new_numbers : (next most : ℕ) (files : List NewFile) → files_fit next most files ≡ true → map numbers_in (new_rowset files) ≡ map span_numbers (new_spans files)
+new_numbers : (next most : ℕ) (files : List NewFile) → files_fit next most files ≡ true → map numbers_in (new_rowset files) ≡ new_rowset_numbers files
 new_numbers next most [] h = refl
 new_numbers next most (f ∷ files) h =
     let p = and_parts (nat_le next f.file) _ h in
@@ -81,7 +74,7 @@ files_split (suc k) (r ∷ rowsets) = append_assoc r (files_of (take k rowsets))
 -- ---- new files
 
 -- where new files begin
-first_new : ℕ → List NewFile → ℕ
+abbrev first_new : ℕ → List NewFile → ℕ
 first_new next [] = next
 first_new next (f ∷ files) = f.file
 
@@ -130,7 +123,7 @@ publish_same r s version files changed has =
     ∙ ap (λ (m : ℕ). publish_fits m s.versions version files changed) (sym (most_is r s has))
 
 -- the version after it
-publish_step : (edit : ℕ) (s : Standing) (version : ℕ) (files : List NewFile) (changed : List DeadRows) → Standing
+abbrev publish_step : (edit : ℕ) (s : Standing) (version : ℕ) (files : List NewFile) (changed : List DeadRows) → Standing
 publish_step edit s version files changed = record s { edit = edit; versions = published files changed s.versions; kept = s.kept ++ record { edit = edit; told = Publish version files changed } ∷ [] }
 
 publish_when : (edit : ℕ) (s : Standing) (version : ℕ) (files : List NewFile) (changed : List DeadRows) (b : Bool) → publish_fits (most_file s) s.versions version files changed ≡ b
@@ -166,10 +159,9 @@ published_has edit old new s version files changed has h made =
       rowsets = marked-numbers changed (published_rowsets files s.versions.current.rowsets)
           ∙ numbers_in-append s.versions.current.rowsets (new_rowset files)
           ∙ (λ i. has.rowsets i ++ new_numbers s.versions.next_file (bound - 1) files d.0 i)
-          ∙ sym (spans-append old.rowsets.items (new_spans files))
-          ∙ ap (λ (t : List Span). map span_numbers t) (sym made.rowsets);
+          ∙ sym made.rowsets;
       files = subst (Finds (get nat_cmp new.files)) (sym (files_of-marked changed (published_rowsets files s.versions.current.rowsets)))
-          (finds_ext (marks changed (added files (get nat_cmp old.files))) (get nat_cmp new.files) (map (marked_file changed) (files_of (published_rowsets files s.versions.current.rowsets))) made.files
+          (finds_ext (marks changed (added files (get nat_cmp old.files))) (get nat_cmp new.files) (map (marked_file changed) (files_of (published_rowsets files s.versions.current.rowsets))) made.lookup
           (marks_find changed (added files (get nat_cmp old.files)) (files_of (published_rowsets files s.versions.current.rowsets)) d.1 (more_files old s files has d.0)));
       once = good.once;
       fit = good.fit;
@@ -227,7 +219,7 @@ compact_same r s edit version replaced files changed has small =
     and_true true = refl
     and_true false = refl
 
-compact_step : (edit : ℕ) (s : Standing) (version replaced : ℕ) (files : List NewFile) (changed : List DeadRows) → Standing
+abbrev compact_step : (edit : ℕ) (s : Standing) (version replaced : ℕ) (files : List NewFile) (changed : List DeadRows) → Standing
 compact_step edit s version replaced files changed =
     record s { edit = edit; versions = compacted replaced files changed None s.versions; kept = kept_above s.versions.older s.kept (record { edit = edit; told = Compact version replaced files changed None }); levels = s.levels }
 
@@ -263,11 +255,10 @@ compacted_has edit old new s version replaced files changed has small h made =
       next_file = made.next_file ∙ ap (λ (n : ℕ). above n (numbers_of files)) has.next_file;
       rowsets = marked-numbers changed (compacted_rowsets replaced files all)
           ∙ numbers_in-append (new_rowset files) (drop replaced all)
-          ∙ (λ i. new_numbers s.versions.next_file (bound - 1) files d.0 i ++ (numbers_in-drop replaced all ∙ ap (drop replaced) has.rowsets ∙ sym (spans-drop replaced old.rowsets.items)) i)
-          ∙ sym (spans-append (new_spans files) (drop replaced old.rowsets.items))
-          ∙ ap (λ (t : List Span). map span_numbers t) (sym made.rowsets);
+          ∙ (λ i. new_numbers s.versions.next_file (bound - 1) files d.0 i ++ (numbers_in-drop replaced all ∙ ap (drop replaced) has.rowsets) i)
+          ∙ sym made.rowsets;
       files = subst (Finds (get nat_cmp new.files)) (sym (files_of-marked changed (compacted_rowsets replaced files all)))
-          (finds_ext (marks changed (added files (files_left old replaced))) (get nat_cmp new.files) (map (marked_file changed) (files_of (compacted_rowsets replaced files all))) made.files
+          (finds_ext (marks changed (added files (files_left old replaced))) (get nat_cmp new.files) (map (marked_file changed) (files_of (compacted_rowsets replaced files all))) made.lookup
           (marks_find changed (added files (files_left old replaced)) (files_of (compacted_rowsets replaced files all)) e.0 (other_files old s replaced files has d.0)));
       once = good.once;
       fit = good.fit;
@@ -285,14 +276,6 @@ compact_moves edit false old new s version replaced files changed has small e ma
 
 -- ---- a raised floor
 
--- everything but the floor stays
-pub record HasRaised (floor : ℕ) (old new : Replay) : Type 0 where
-  pub floor_now : new.floor ≡ floor
-  pub current : new.current ≡ old.current
-  pub next_file : new.next_file ≡ old.next_file
-  pub rowsets : new.rowsets.items ≡ old.rowsets.items
-  pub files : (n : ℕ) → get nat_cmp new.files n ≡ get nat_cmp old.files n
-
 floor_same : (r : Replay) (s : Standing) (floor : ℕ) → HasCurrent r s → r.current < bound → (nat_lt r.floor floor && nat_le floor r.current) ≡ floor_fits floor s.versions
 floor_same r s floor has small =
     (λ i. nat_lt (has.floor i) floor && nat_le floor (has.current i))
@@ -302,7 +285,7 @@ floor_same r s floor has small =
     by true k = sym (k refl)
     by false k = refl
 
-floor_step : ℕ → Standing → ℕ → Standing
+abbrev floor_step : ℕ → Standing → ℕ → Standing
 floor_step edit s floor = record s { edit = edit; versions = raised floor s.versions; kept = entries_above floor s.kept }
 
 pub floor_moves : (edit : ℕ) (ok : Bool) (old new : Replay) (s : Standing) (floor : ℕ) → HasCurrent old s → old.current < bound → ok ≡ (nat_lt old.floor floor && nat_le floor old.current)
@@ -355,3 +338,60 @@ begins_has r schema s h edit floor current next rowsets files =
         below = refl;
       };
     })
+
+-- ---- as the records are told
+
+pub publish_told : (edit : ℕ) (ok : Bool) (old new : Replay) (s : Standing) (version : ℕ) (files fs : List NewFile) (changed cs : List DeadRows) (told : Record) → HasCurrent old s → told ≡ Publish version files changed
+    → fs ≡ files → cs ≡ changed → ok ≡ publish_takes old version fs cs → (ok ≡ true → HasPublished version fs cs old new) → Moves ok (step_at edit s told) new
+publish_told edit ok old new s version files fs changed cs told has is e d fits made =
+    subst (λ (r : Record). Moves ok (step_at edit s r) new) ((λ i. Publish version (e i) (d i)) ∙ sym is) (publish_moves edit ok old new s version fs cs has fits made)
+
+no_levels : (version replaced : ℕ) (files : List NewFile) (changed : List DeadRows) (levels : Option LevelList) → IsTrue (is_built (Compact version replaced files changed levels)) → None ≡ levels
+no_levels version replaced files changed None h = refl
+no_levels version replaced files changed (Some l) h = cc
+
+pub compact_told : (edit : ℕ) (ok : Bool) (old new : Replay) (s : Standing) (version replaced : ℕ) (files fs : List NewFile) (changed cs : List DeadRows) (levels : Option LevelList) (told : Record) → HasCurrent old s → old.current < bound
+    → told ≡ Compact version replaced files changed levels → IsTrue (is_built told) → fs ≡ files → cs ≡ changed → ok ≡ compact_takes old version replaced fs cs → (ok ≡ true → HasCompacted replaced fs cs old new)
+    → Moves ok (step_at edit s told) new
+compact_told edit ok old new s version replaced files fs changed cs levels told has small is built e d fits made =
+    let none = no_levels version replaced files changed levels (subst (λ (r : Record). IsTrue (is_built r)) is built) in
+    subst (λ (r : Record). Moves ok (step_at edit s r) new) ((λ i. Compact version replaced (e i) (d i) (none i)) ∙ sym is) (compact_moves edit ok old new s version replaced fs cs has small fits made)
+
+pub floor_told : (edit : ℕ) (ok : Bool) (old new : Replay) (s : Standing) (floor : ℕ) (told : Record) → HasCurrent old s → old.current < bound → told ≡ Floor floor → ok ≡ (nat_lt old.floor floor && nat_le floor old.current)
+    → (ok ≡ true → HasRaised floor old new) → Moves ok (step_at edit s told) new
+floor_told edit ok old new s floor told has small is fits made = subst (λ (r : Record). Moves ok (step_at edit s r) new) (sym is) (floor_moves edit ok old new s floor has small fits made)
+
+-- a step that was made
+pub goes_so : (ok : Bool) (old new up : Replay) (s : Standing) (told : Record) → ok ≡ true → Follows old s → old.edit + 1 < bound → new.edit ≡ old.edit → up.edit ≡ new.edit + 1
+    → ((t : Standing) → HasCurrent new t → HasCurrent up t) → Moves ok (step_at (s.edit + 1) s told) new → Goes ok (step s told) up
+goes_so true old new up s told so follows small same more lift moves =
+    let was = follows.edit in
+    let next = moves.1 in
+    let is : step s told ≡ Some moves.0 = ap (λ (b : Bool). if b then step_at (s.edit + 1) s told else None) (lt-ltb (s.edit + 1) bound (omega arith)) ∙ next in
+    let count = (steps_count s moves.0 told is).edit in
+    (moves.0, is, record { edit = omega arith; has = lift moves.0 moves.2 })
+goes_so false old new up s told so follows small same more lift moves = cc
+
+-- ---- a compaction that was made
+
+spans-append : (xs ys : List Span) → all_numbers (xs ++ ys) ≡ all_numbers xs ++ all_numbers ys
+spans-append [] ys = refl
+spans-append (x ∷ xs) ys = ap (λ (t : List (List ℕ)). span_numbers x ∷ t) (spans-append xs ys)
+
+spans-drop : (k : ℕ) (xs : List Span) → all_numbers (drop k xs) ≡ drop k (all_numbers xs)
+spans-drop zero xs = refl
+spans-drop (suc k) [] = refl
+spans-drop (suc k) (x ∷ xs) = spans-drop k xs
+
+pub rowsets_made : (replaced : ℕ) (files : List NewFile) (old : Replay) (span : Option Span) (left items rowsets : List Span) → items ≡ old.rowsets.items → left ≡ drop replaced items
+    → rowsets ≡ option_spans span ++ left → all_numbers (option_spans span) ≡ new_rowset_numbers files → all_numbers rowsets ≡ new_rowset_numbers files ++ drop replaced (all_numbers old.rowsets.items)
+rowsets_made replaced files old span left items rowsets e d r n =
+    ap all_numbers r ∙ spans-append (option_spans span) left ∙ (λ i. n i ++ (ap all_numbers (d ∙ ap (drop replaced) e) ∙ spans-drop replaced old.rowsets.items) i)
+
+pub lookup_made : (replaced : ℕ) (files : List NewFile) (changed : List DeadRows) (old : Replay) (gone items : List Span) (f g h : Lookup) → items ≡ old.rowsets.items → gone ≡ take replaced items
+    → ((n : ℕ) → f n ≡ without (flat_map span_numbers gone) (get nat_cmp old.files) n) → ((n : ℕ) → g n ≡ added files f n) → ((n : ℕ) → h n ≡ marks changed g n)
+    → (n : ℕ) → h n ≡ marks changed (added files (files_left old replaced)) n
+lookup_made replaced files changed old gone items f g h e d first second third n =
+    let left : f ≡ files_left old replaced = (λ i m. first m i) ∙ ap (λ (t : List Span). without (flat_map span_numbers t) (get nat_cmp old.files)) (d ∙ ap (take replaced) e) in
+    let more : g ≡ added files (files_left old replaced) = (λ i m. second m i) ∙ ap (added files) left in
+    third n ∙ ap (λ (k : Lookup). marks changed k n) more

@@ -10,7 +10,7 @@ use Rattle.journal_form.specs.Versions.{above, all_below, bound, current_number,
 use Rattle.journal_form.specs.Meaning.{Standing, distinct, file_fits}
 use Rattle.journal_replay.specs.declared.replay.Replay.{Replay}
 use Rattle.journal_replay.specs.declared.span.Span.{Span}
-use Rattle.journal_replay.specs.Lookups.{Finds, Lookup, added, all_take, marks, span_numbers, without}
+use Rattle.journal_replay.specs.Lookups.{Finds, Lookup, added, all_take, counted_from, marks, span_numbers, without}
 
 abbrev pub numbers_in : List ListedFile → List ℕ
 numbers_in files = map (λ f. f.file) files
@@ -46,9 +46,13 @@ Goes false next replay = next ≡ None
 -- ---- by the replay's own fields
 
 -- new files as a rowset, but no file is none
-abbrev pub new_spans : List NewFile → List Span
-new_spans [] = []
-new_spans (file ∷ files) = record { first = file.file; count = length (file ∷ files) } ∷ []
+abbrev pub new_rowset_numbers : List NewFile → List (List ℕ)
+new_rowset_numbers [] = []
+new_rowset_numbers (file ∷ files) = counted_from file.file (length (file ∷ files)) ∷ []
+
+-- rowsets by the numbers of their files
+abbrev pub all_numbers : List Span → List (List ℕ)
+all_numbers spans = map span_numbers spans
 
 abbrev pub option_spans : Option Span → List Span
 option_spans None = []
@@ -68,8 +72,8 @@ pub record HasPublished (version : ℕ) (files : List NewFile) (changed : List D
   pub floor : new.floor ≡ old.floor
   pub current : new.current ≡ version
   pub next_file : new.next_file ≡ above old.next_file (numbers_of files)
-  pub rowsets : new.rowsets.items ≡ old.rowsets.items ++ new_spans files
-  pub files : (n : ℕ) → get nat_cmp new.files n ≡ marks changed (added files (get nat_cmp old.files)) n
+  pub rowsets : all_numbers new.rowsets.items ≡ all_numbers old.rowsets.items ++ new_rowset_numbers files
+  pub lookup : (n : ℕ) → get nat_cmp new.files n ≡ marks changed (added files (get nat_cmp old.files)) n
 
 -- the files of all but the first rowsets
 abbrev pub files_left : Replay → ℕ → Lookup
@@ -84,5 +88,13 @@ pub record HasCompacted (replaced : ℕ) (files : List NewFile) (changed : List 
   pub floor : new.floor ≡ old.floor
   pub current : new.current ≡ old.current
   pub next_file : new.next_file ≡ above old.next_file (numbers_of files)
-  pub rowsets : new.rowsets.items ≡ new_spans files ++ drop replaced old.rowsets.items
-  pub files : (n : ℕ) → get nat_cmp new.files n ≡ marks changed (added files (files_left old replaced)) n
+  pub rowsets : all_numbers new.rowsets.items ≡ new_rowset_numbers files ++ drop replaced (all_numbers old.rowsets.items)
+  pub lookup : (n : ℕ) → get nat_cmp new.files n ≡ marks changed (added files (files_left old replaced)) n
+
+-- everything but the floor stays
+pub record HasRaised (floor : ℕ) (old new : Replay) : Type 0 where
+  pub floor_now : new.floor ≡ floor
+  pub current : new.current ≡ old.current
+  pub next_file : new.next_file ≡ old.next_file
+  pub rowsets : new.rowsets.items ≡ old.rowsets.items
+  pub files : (n : ℕ) → get nat_cmp new.files n ≡ get nat_cmp old.files n

@@ -1,5 +1,5 @@
 -- The files of the current version by their numbers, and what a record makes of them.
-use Rattle.std.specs.Prelude.{◌≡◌, ℕ, ◌+◌, List, [], ◌∷◌, length, Bool as Truth, true, false, ◌&&◌, not, nat_le, nat_lt, ◌==◌, cond, Option, Some, None, option_map}
+use Rattle.std.specs.Prelude.{◌≡◌, ℕ, ◌+◌, suc, zero, List, [], ◌∷◌, length, Bool as Truth, true, false, ◌&&◌, not, nat_le, nat_lt, ◌==◌, cond, Option, Some, None, option_map}
 use Rattle.std.specs.List.{list_all, list_any}
 use Rattle.rowsets.specs.Marks.{with_rows}
 use Rattle.journal_form.specs.declared.records.NewFile.{NewFile}

@@ -1,8 +1,8 @@
-ghost use Rattle.std.specs.Prelude.{◌≡◌, ◌&&◌, IfOk, not, nat_lt, nat_le};
+ghost use Rattle.std.specs.Prelude.{◌≡◌, ◌&&◌, IfOk, true, not, nat_lt, nat_le};
 ghost use Rattle.std.specs.List.{list_all};
-ghost use Rattle.del_vector.specs.DeadRows.{AreDeadRows};
+ghost use Rattle.del_vector.specs.DeadRows.{AreRows};
 ghost use Rattle.journal_form.specs.Versions.{rise_from};
-ghost use Rattle.journal_replay.specs.Lookups.{row_lives, takes_rows, least_after};
+ghost use Rattle.journal_replay.specs.Lookups.{dead_too, row_lives, takes_rows, least_after};
 
 use del_vector::DelVector;
 use dev_traits::Memory;
@@ -49,7 +49,8 @@ pub(crate) fn takes(file: &CurrentFile, rows: &[u16]) -> bool
 }
 
 fn widened(alloc: Global, rows: &[u16]) -> Result<Vec<u32>, Memory>
-    ensures { IfOk result (λ wide. wide.items ≡ rows.now) }
+    ensures same { IfOk result (λ wide. wide.items ≡ rows.now) }
+    ensures small { IfOk result (λ wide. AreRows wide.items) }
 {
     let mut wide = Vec::with_capacity(alloc, rows.len())?;
     for row in rows {

@@ -1,8 +1,8 @@
-ghost use Rattle.std.specs.Prelude.{◌≡◌, ◌&&◌, ◌+◌, ◌-◌, ◌^◌, ◌<◌, ◌≤◌, ◌++◌, IfOk, IsTrue, None, Some, true, nat_le, nat_lt};
+ghost use Rattle.std.specs.Prelude.{◌≡◌, ◌&&◌, ◌+◌, ◌-◌, ◌^◌, ◌<◌, ◌≤◌, ◌++◌, IfOk, IsTrue, None, Some, true, nat_le, nat_lt, length, ◌==◌};
 ghost use Rattle.journal_form.specs.Versions.{above, bound, files_fit, numbers_of};
 ghost use Rattle.journal_form.specs.Meaning.{Standing, created, opens, step, step_at};
 ghost use Rattle.journal_form.specs.Standings.{is_built};
-ghost use Rattle.journal_replay.specs.Follow.{Follows, Goes, HasCompacted, HasPublished, Moves, compact_takes, publish_takes};
+ghost use Rattle.journal_replay.specs.Follow.{Follows, Goes, HasCompacted, HasPublished, HasRaised, Moves, compact_takes, publish_takes};
 ghost use Rattle.pk_values.specs.Schemas.{Layout};
 
 use crate::file_maps::{add_files, mark_all, remove_spans};
@@ -117,6 +117,13 @@ impl Replay {
         Ok(true)
     }
 
+    // Whether this is the current version, and it has so many rowsets.
+    fn may_compact(&self, version: u64, replaced: u64) -> bool
+        ensures { result ≡ ((version == self.now.current) && nat_le replaced (length self.now.rowsets.items)) }
+    {
+        version == self.current && replaced <= self.rowsets.len() as u64
+    }
+
     fn compact(
         &mut self,
         alloc: Global,
@@ -129,8 +136,10 @@ impl Replay {
         ensures made { IfOk result (λ ok. ok ≡ true → HasCompacted replaced files.now changed.now self.old self.new) }
         ensures edit { self.new.edit ≡ self.old.edit }
     {
-        let in_turn = version == self.current && replaced <= self.rowsets.len() as u64;
-        if !in_turn || !are_new(self.next_file, files) {
+        if !self.may_compact(version, replaced) {
+            return Ok(false);
+        }
+        if !are_new(self.next_file, files) {
             return Ok(false);
         }
         let (gone, left) = self.rowsets.split_at(replaced as usize);
@@ -148,7 +157,7 @@ impl Replay {
 
     fn raise(&mut self, floor: u64) -> bool
         ensures fits { result ≡ (nat_lt self.old.floor floor && nat_le floor self.old.current) }
-        ensures raised { result ≡ true → self.new.floor ≡ floor }
+        ensures raised { result ≡ true → HasRaised floor self.old self.new }
         ensures kept { self.new.edit ≡ self.old.edit }
     {
         if self.floor < floor && floor <= self.current {

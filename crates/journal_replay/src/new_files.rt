@@ -1,6 +1,6 @@
 ghost use Rattle.std.specs.Prelude.{◌≡◌, ◌&&◌, ◌-◌, ◌^◌, ◌<◌, true};
 ghost use Rattle.journal_form.specs.Versions.{above, all_below, bound, consecutive, files_fit, numbers_of};
-ghost use Rattle.journal_replay.specs.Follow.{new_spans, next_number, option_spans};
+ghost use Rattle.journal_replay.specs.Follow.{all_numbers, new_rowset_numbers, next_number, option_spans};
 
 use crate::span::Span;
 use journal_form::NewFile;
@@ -38,14 +38,14 @@ pub(crate) fn are_new(next: u64, files: &[NewFile]) -> bool
 /// New files as a rowset; no file makes none.
 pub(crate) fn span_of(next: u64, files: &[NewFile]) -> Option<Span>
     requires { files_fit next (bound - 1) files.now ≡ true }
-    ensures span { option_spans result ≡ new_spans files.now }
+    ensures span { all_numbers (option_spans result) ≡ new_rowset_numbers files.now }
     ensures above { next_number next result ≡ above next (numbers_of files.now) }
 {
     match files {
         [] => None,
-        [file, ..] => Some(Span {
+        [file, more @ ..] => Some(Span {
             first: file.file,
-            count: files.len() as u64,
+            count: more.len() as u64 + 1,
         }),
     }
 }

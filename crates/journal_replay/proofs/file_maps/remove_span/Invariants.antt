@@ -6,8 +6,8 @@ use Rattle.journal_replay.proofs.file_maps.remove_span.Given as goal
 
 abbrev pub invariant-loop-left : goal.invariant-loop-left
 invariant-loop-left l =
-    ((n : ℕ) → without (counted_from l.number l.left) (get nat_cmp l.files) n ≡ without (span_numbers l.span) (get nat_cmp l.fn.files) n)
-    × (l.number + l.left ≡ l.span.first + l.span.count)
+    ((n : ℕ) → without (counted_from l.number l.left) (get nat_cmp l.files) n ≡ without (span_numbers l.fn.span) (get nat_cmp l.fn.files) n)
+    × (l.number + l.left ≡ l.fn.span.first + l.fn.span.count)
 
 abbrev pub decreases-loop-left : goal.decreases-loop-left
 decreases-loop-left l = l.left
