@@ -1,5 +1,5 @@
 ghost use Rattle.std.specs.Prelude.{◌≡◌, ◌+◌, ◌*◌, ◌-◌, ◌^◌, ◌<◌, ◌≤◌, [], ◌∷◌, ℕ, List, length, take, drop, IfOk};
-ghost use Rattle.std.specs.Prelude.{IsErrOf, IsTrue, MatchOption};
+ghost use Rattle.std.specs.Prelude.{IfSome, IsErrOf, IsTrue, MatchOption};
 ghost use Rattle.dev_traits.specs.Image.{area_of, Blanked};
 ghost use Rattle.dev_traits.specs.View.{Told, Calm, Leaves, ReadsElsewhere, Spends};
 ghost use Rattle.gated_log.specs.Faults.{HasLogCause};
@@ -177,4 +177,34 @@ pub fn read_log<S: Store>(alloc: Global, store: &mut S, area: u32) -> Result<Con
     let Scanned { bodies, end } = scan(alloc, store, area, length)?;
     let log = Log { area, end };
     Ok(Contents { log, bodies })
+}
+
+/// The log of an area and its bodies, in their order and in one pass, or none where the area is empty. It writes
+/// nothing.
+///
+/// # Errors
+/// `NotALog` where the area isn't of the log's grammar, `StoreFault`, and `Memory` for the bodies.
+pub fn log_in<S: Store>(
+    alloc: Global,
+    store: &mut S,
+    area: u32,
+) -> Result<Option<Contents>, LogFault>
+    requires { area < 3 }
+    ensures area { IfOk result (λ found. IfSome found (λ contents. contents.log.area ≡ area)) }
+    ensures found { IfOk result (λ found. Told (S.view store.old) (λ image.
+        MatchOption found (area_of image area ≡ []) (λ contents. EndsAt contents.bodies.items contents.log.end
+        (area_of image area)))) }
+    ensures few { IfOk result (λ found. IfSome found (λ contents. 10 * length contents.bodies.items
+        ≤ contents.log.end)) }
+    ensures not_a_log { IsErrOf result NotALog → Told (S.view store.old) (λ image. IsNoLog (area_of image area)) }
+    ensures calm { Calm (S.view store.old) (S.view store.new) }
+    ensures cause { HasLogCause (S.view store.old).faults (S.view store.new).faults result }
+{
+    let length = store.length(area)?;
+    if length == 0 {
+        return Ok(None);
+    }
+    let Scanned { bodies, end } = scan(alloc, store, area, length)?;
+    let log = Log { area, end };
+    Ok(Some(Contents { log, bodies }))
 }

@@ -7,7 +7,7 @@ mod framed;
 mod log;
 mod reading;
 
-pub use contents::{Contents, bodies, first_body, read_log};
+pub use contents::{Contents, bodies, first_body, log_in, read_log};
 pub use fault::LogFault;
 pub use framed::{Framed, frame};
 pub use log::{Log, append, reset};

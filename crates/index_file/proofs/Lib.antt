@@ -6,6 +6,7 @@ pub mod FooterFacts
 pub mod FormFacts
 pub mod Fronts
 pub mod IntactFacts
+pub mod ListingFacts
 pub mod MakingFacts
 pub mod ReaderFacts
 pub mod ReadingFacts

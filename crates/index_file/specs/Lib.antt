@@ -7,6 +7,7 @@ pub mod FooterFields
 pub mod Footers
 pub mod FormLaws
 pub mod Hash
+pub mod Listing
 pub mod Making
 pub mod Reading
 pub mod Reads

@@ -1,4 +1,4 @@
-ghost use Rattle.std.specs.Prelude.{◌≡◌, ◌<◌, ◌≤◌, IfErr, IfOk, IsTrue, List, length};
+ghost use Rattle.std.specs.Prelude.{◌≡◌, ◌<◌, ◌≤◌, IfErr, IfOk, IsTrue, length};
 ghost use Rattle.std.specs.Option.{option_map};
 ghost use Rattle.std.specs.FinMap.{find, get};
 ghost use Rattle.std.specs.Cmp.Lexicographic.{slice_cmp};
@@ -6,9 +6,10 @@ ghost use Rattle.std.specs.Ordering.{nat_cmp};
 ghost use Rattle.dev_traits.specs.declared.faults.Part.TheVariants as part;
 ghost use Rattle.index_level0.specs.Levels.{Level};
 ghost use Rattle.index_file.specs.declared.footers.IndexFooter.{IndexFooter};
-ghost use Rattle.index_file.specs.Buckets.{Pair, bucket_of, buckets_for};
-ghost use Rattle.index_file.specs.Entries.{BucketShown, HasLevel, IsTheBucket, sum_fits, sums_fit, with_base};
+ghost use Rattle.index_file.specs.Buckets.{bucket_of, buckets_for};
+ghost use Rattle.index_file.specs.Entries.{BucketShown, HasLevel, sum_fits, sums_fit, with_base};
 ghost use Rattle.index_file.specs.Footers.{FooterShown, HasFooter};
+ghost use Rattle.index_file.specs.Listing.{HasEntry};
 ghost use Rattle.index_file.specs.Reads.{bucket_in, HasFailed, HasRead, IsDamage, KnowsFooter, OfBucket, OnDamage, OnFile, Reading, TellsDamage};
 
 use crate::bucket_reads::read_entries_of;
@@ -162,9 +163,7 @@ pub fn probe<R: SealedReader>(
     file: &mut IndexFile<R>,
     key: &[u8],
 ) -> Result<Option<Option<Place>>, ReadFault>
-    ensures entry { IfOk result (λ entry. OnFile (R.view file.old.reader) (λ bytes. OfBucket file.old.footer (bucket_of (length file.old.footer.buckets) key.now) (λ mark.
-        (es : List Pair) × IsTheBucket (length file.old.footer.buckets) (bucket_of (length file.old.footer.buckets) key.now) file.old.base (bucket_in bytes mark) es
-        × (entry ≡ option_map (with_base file.old.base) (find (slice_cmp nat_cmp) key.now es))))) }
+    ensures entry { IfOk result (λ entry. HasEntry file.old.base file.old.footer (R.view file.old.reader) key.now entry) }
 
     // Of the file of a level, the level's entry.
     ensures level { IfOk result (λ entry. (level : Level) → HasLevel file.old.base file.old.footer (R.view file.old.reader) level → entry ≡ get level key.now) }

@@ -1,13 +1,15 @@
-ghost use Rattle.std.specs.Prelude.{◌≡◌, ◌≤◌, ◌++◌, IfErr, IfOk, OnOk, IsTrue, T, length, map};
+ghost use Rattle.std.specs.Prelude.{◌≡◌, ◌≤◌, ◌++◌, IfErr, IfOk, OnOk, IsTrue, List, T, length, map};
 ghost use Rattle.std.specs.List.{IsDistinct};
 ghost use Rattle.std.specs.Map.{keys_of};
-ghost use Rattle.std.specs.FinMap.{entries, from_entries, is_sorted};
+ghost use Rattle.std.specs.FinMap.{entries, from_entries, from_sorted, is_sorted};
 ghost use Rattle.std.specs.Cmp.Lexicographic.{slice_cmp};
 ghost use Rattle.std.specs.Ordering.{eq_by_cmp, nat_cmp};
 ghost use Rattle.index_level0.specs.Levels.{Level};
 ghost use Rattle.index_file.specs.Damages.{IsBucketDamage, IsFileDamage};
 ghost use Rattle.index_file.specs.Entries.{HasLevel, pair_with_base, sums_fit};
-ghost use Rattle.index_file.specs.Reads.{KnowsFooter, OnDamage, Reading, TellsDamage};
+ghost use Rattle.index_file.specs.Buckets.{Pair};
+ghost use Rattle.index_file.specs.Listing.{all_based, HaveEntries, ReadsAs};
+ghost use Rattle.index_file.specs.Reads.{KnowsFooter, OnDamage, OnFile, Reading, TellsDamage};
 
 use crate::bucket_reads::read_entries_of;
 use crate::faults::{PartFault, fault_of};
@@ -44,6 +46,8 @@ fn gather<R: SealedReader>(
     requires some { 1 ≤ length footer.now.buckets }
     ensures distinct { IfOk result (λ all. IsDistinct (eq_by_cmp (slice_cmp nat_cmp)) (keys_of all.items)) }
     ensures level { IfOk result (λ all. (level : Level) → HasLevel base footer.now (R.view reader.old) level → (from_entries {R = slice_cmp nat_cmp} all.items ≡ level) × (length all.items ≡ footer.now.entries)) }
+    ensures listed { IfOk result (λ all. OnFile (R.view reader.old) (λ file. (buckets : List (List Pair)) × (length buckets ≡ length footer.now.buckets)
+        × HaveEntries base footer.now file 0 buckets × (all.items ≡ all_based base buckets))) }
     ensures damaged { IfErr result (λ e. OnDamage e (IsBucketDamage base footer.now number (R.view reader.old))) }
     ensures reading { Reading (length footer.now.buckets) (R.view reader.old) (R.view reader.new) result }
 {
@@ -72,6 +76,9 @@ pub fn entries<R: SealedReader>(
 ) -> Result<Vec<(KeyBytes, Option<Place>)>, ReadFault>
     ensures level { IfOk result (λ all. (level : Level) → HasLevel file.old.base file.old.footer (R.view file.old.reader) level → all.items ≡ entries level) }
     ensures rise { IfOk result (λ all. T (is_sorted (slice_cmp nat_cmp) all.items)) }
+
+    // Of any file, what all its buckets have. No damaged one is passed over.
+    ensures listed { IfOk result (λ all. ReadsAs file.old.base file.old.footer (R.view file.old.reader) (from_sorted all.items)) }
     ensures damaged { IfErr result (λ e. OnDamage e (IsFileDamage file.old.base file.old.footer file.old.number (R.view file.old.reader))) }
     ensures intact { IfErr result (λ e. TellsDamage e → (level : Level) → HasLevel file.old.base file.old.footer (R.view file.old.reader) level → ⊥) }
     ensures reading { Reading (length file.old.footer.buckets) (R.view file.old.reader) (R.view file.new.reader) result }

@@ -4,3 +4,4 @@ pub mod FilterFacts
 pub mod IndexFacts
 pub mod MergedFacts
 pub mod ReadFacts
+pub mod ToldFacts

@@ -1,5 +1,6 @@
 -- What contracts see of an index.
-use Rattle.std.specs.Prelude.{◌≡◌, ◌⊎◌, ℕ, ◌+◌, ◌≤◌, List, [], ◌∷◌, refl, Result, IsErrOf}
+use Rattle.std.specs.Prelude.{◌≡◌, ◌⊎◌, ℕ, ◌+◌, ◌≤◌, List, [], ◌∷◌, refl, true, is_some, Option, Some, None, MatchOption, Result, IsErrOf}
+use Rattle.std.specs.FinMap.{get}
 use Rattle.std.specs.Coded.{Coded, code_by, coded×, coded_list}
 use Rattle.dev_traits.specs.Causes.{Counts}
 use Rattle.dev_traits.specs.declared.faults.ReadFault.{ReadFault}
@@ -8,7 +9,7 @@ use Rattle.dev_traits.specs.declared.faults.MakeFault.{MakeFault}
 use Rattle.dev_traits.specs.declared.faults.MakeFault.TheVariants as make
 use Rattle.pk_index.specs.declared.faults.IndexFault.{IndexFault}
 use Rattle.pk_index.specs.declared.faults.IndexFault.TheVariants as index
-use Rattle.index_level0.specs.Levels.{Level, LevelWithRoom, coded_level_with_room}
+use Rattle.index_level0.specs.Levels.{Entry, Level, LevelWithRoom, coded_level_with_room}
 use Rattle.index_levels.specs.Levels.{Index}
 
 -- level 0 with its room, the files, of which the newest is the first, and those that are set aside
@@ -28,6 +29,15 @@ HaveLevels has [] [] = Unit {0}
 HaveLevels has [] (l ∷ ls) = ⊥
 HaveLevels has (f ∷ fs) [] = ⊥
 HaveLevels has (f ∷ fs) (l ∷ ls) = has f l × HaveLevels has fs ls
+
+-- the first of these files that has something has this, and the ones before it have nothing; or it is nothing, and none has anything
+abbrev pub FirstHas : {F : Type 0} → (F → Option Entry → Type 0) → List F → Option Entry → Type 0
+FirstHas has [] entry = entry ≡ None
+FirstHas has (f ∷ fs) entry = (has f entry × (is_some entry ≡ true)) ⊎ (has f None × FirstHas has fs entry)
+
+-- the newest entry of a key: that of level 0, or else of the first file that has the key
+abbrev pub NewestHas : {F : Type 0} → (F → List ℕ → Option Entry → Type 0) → Level → List F → List ℕ → Option Entry → Type 0
+NewestHas has level0 files key entry = MatchOption (get level0 key) (FirstHas (λ f. has f key) files entry) (λ e. entry ≡ Some e)
 
 -- each number is at most one more than it was
 abbrev pub AtMostOneMore : List ℕ → List ℕ → Type 0

@@ -6,7 +6,7 @@ ghost use Rattle.std.specs.FinMap.{entries, is_sorted};
 ghost use Rattle.std.specs.Cmp.Lexicographic.{slice_cmp};
 ghost use Rattle.std.specs.Ordering.{nat_cmp};
 ghost use Rattle.index_level0.specs.Levels.{Level};
-ghost use Rattle.pk_index.specs.Shown.{AtMostOneMore, HaveCause, HaveLevels};
+ghost use Rattle.pk_index.specs.Shown.{AtMostOneMore, FirstHas, HaveCause, HaveLevels};
 
 use crate::entries::{Pair, merge};
 use dev_traits::{Memory, ReadFault};
@@ -15,15 +15,21 @@ use std::alloc::Global;
 
 /// A level in a file. Which one it has is a relation, since a file that doesn't tell its bytes, or whose bytes are no level's, has none.
 pub trait FileLevel: Drop {
-    ghost use Rattle.std.specs.Prelude.{◌≡◌, ◌+◌, ◌≤◌, ℕ, IfErr, IfOk, T};
+    ghost use Rattle.std.specs.Prelude.{◌≡◌, ◌+◌, ◌≤◌, ℕ, IfErr, IfOk, List, Option, T};
     ghost use Rattle.dev_traits.specs.Causes.{HasReadCause};
     ghost use Rattle.index_file.specs.Reads.{TellsDamage};
-    ghost use Rattle.std.specs.FinMap.{entries, get, is_sorted};
+    ghost use Rattle.std.specs.FinMap.{entries, from_sorted, get, is_sorted};
     ghost use Rattle.std.specs.Cmp.Lexicographic.{slice_cmp};
     ghost use Rattle.std.specs.Ordering.{nat_cmp};
-    ghost use Rattle.index_level0.specs.Levels.{Level};
+    ghost use Rattle.index_level0.specs.Levels.{Entry, Level};
 
     ghost has_level: { Self → Level → Type 0 };
+
+    // What its bytes have at a key, and which level all of them are read as, whether or not it has a level. Of bytes that are
+    // damaged there neither holds of anything, and of a file that doesn't tell its bytes of everything.
+    ghost has_entry: { Self → List ℕ → Option Entry → Type 0 };
+
+    ghost reads_as: { Self → Level → Type 0 };
 
     // How often the file was read, and how often a read failed.
     ghost reads: { Self → ℕ };
@@ -48,6 +54,7 @@ pub trait FileLevel: Drop {
     /// What the file has at a key. It reads the file at most once.
     fn probe(&mut self, alloc: Global, key: &[u8]) -> Result<Option<Option<Place>>, ReadFault>
         ensures entry { IfOk result (λ entry. (level : Level) → has_level self.old level → entry ≡ get level key.now) }
+        ensures told { IfOk result (λ entry. has_entry self.old key.now entry) }
         ensures same { (level : Level) → has_level self.old level → has_level self.new level }
         ensures reads { reads self.new ≤ reads self.old + 1 }
         ensures named { named self.new ≡ named self.old }
@@ -58,6 +65,7 @@ pub trait FileLevel: Drop {
     fn entries(&mut self, alloc: Global) -> Result<Vec<Pair>, ReadFault>
         ensures entries { IfOk result (λ all. (level : Level) → has_level self.old level → all.items ≡ entries level) }
         ensures rise { IfOk result (λ all. T (is_sorted (slice_cmp nat_cmp) all.items)) }
+        ensures listed { IfOk result (λ all. reads_as self.old (from_sorted all.items)) }
         ensures same { (level : Level) → has_level self.old level → has_level self.new level }
         ensures named { named self.new ≡ named self.old }
         ensures cause { HasReadCause (faults self.old) (faults self.new) result }
@@ -71,6 +79,7 @@ pub(crate) fn probe_all<F: FileLevel>(
     key: &[u8],
 ) -> Result<Option<Option<Place>>, ReadFault>
     ensures entry { IfOk result (λ entry. (ls : List Level) → HaveLevels F.has_level files.old ls → entry ≡ entry_at ls key.now) }
+    ensures told { IfOk result (λ entry. FirstHas (λ f. F.has_entry f key.now) files.old entry) }
     ensures same { (ls : List Level) → HaveLevels F.has_level files.old ls → HaveLevels F.has_level files.new ls }
     ensures reads { AtMostOneMore (map F.reads files.old) (map F.reads files.new) }
     ensures named { map F.named files.new ≡ map F.named files.old }
@@ -99,6 +108,7 @@ pub(crate) fn merge_newest<F: FileLevel>(
     requires { count ≤ length files.old }
     ensures entries { IfOk result (λ all. (ls : List Level) → HaveLevels F.has_level files.old ls → all.items ≡ entries (merged (level0.now.level ∷ take count ls))) }
     ensures rise { IfOk result (λ all. T (is_sorted (slice_cmp nat_cmp) all.items)) }
+    ensures listed { IfOk result (λ all. (ls : List Level) × HaveLevels F.reads_as (take count files.old) ls × (all.items ≡ entries (merged (level0.now.level ∷ ls)))) }
     ensures same { (ls : List Level) → HaveLevels F.has_level files.old ls → HaveLevels F.has_level files.new ls }
     ensures older { drop count files.new ≡ drop count files.old }
     ensures named { map F.named files.new ≡ map F.named files.old }

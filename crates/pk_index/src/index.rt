@@ -1,14 +1,14 @@
-ghost use Rattle.std.specs.Prelude.{◌≡◌, ◌+◌, ◌-◌, ◌<◌, ◌≤◌, ◌^◌, ◌↔◌, ◌++◌, ℕ, List, [], Some, T, is_some, length, map, take, drop, reverse, sum, max, min, nat_lt, if◌then◌else◌, IfOk, IfErr, IfNone, IsTrue, OnErr, OnOk};
-ghost use Rattle.std.specs.Option.{option_to_list};
+ghost use Rattle.std.specs.Prelude.{◌≡◌, ◌+◌, ◌-◌, ◌<◌, ◌≤◌, ◌^◌, ◌↔◌, ◌++◌, ◌∷◌, ℕ, List, [], Option, Some, T, is_some, length, map, take, drop, reverse, sum, max, min, nat_lt, if◌then◌else◌, IfOk, IfErr, IfNone, IsTrue, OnErr, OnOk};
+ghost use Rattle.std.specs.Option.{option_flatten, option_to_list};
 ghost use Rattle.std.specs.FinMap.{empty, entries, is_sorted, len};
 ghost use Rattle.std.specs.Cmp.Lexicographic.{slice_cmp};
 ghost use Rattle.std.specs.Ordering.{nat_cmp};
 ghost use Rattle.index_file.specs.Buckets.{footer_of, index_file};
-ghost use Rattle.index_level0.specs.Levels.{Level};
+ghost use Rattle.index_level0.specs.Levels.{Entry, Level};
 ghost use Rattle.index_levels.specs.Levels.{flushed, levels, merged, newer_than, place_at, put_all, replaced};
-ghost use Rattle.pk_index.specs.Flushing.{written};
+ghost use Rattle.pk_index.specs.Flushing.{merged_for, written};
 ghost use Rattle.index_file.specs.Reads.{TellsDamage};
-ghost use Rattle.pk_index.specs.Shown.{AtMostOneMore, HaveCause, HaveFlushCause, HaveLevels, TellsIndexDamage, index_of};
+ghost use Rattle.pk_index.specs.Shown.{AtMostOneMore, HaveCause, HaveFlushCause, HaveLevels, NewestHas, TellsIndexDamage, index_of};
 
 use crate::entries::{Pair, places, put_changes};
 use crate::faults::{IndexFault, of_make, of_read};
@@ -118,6 +118,10 @@ impl<F: FileLevel> PkIndex<F> {
     pub fn get(&mut self, alloc: Global, key: &[u8]) -> Result<Option<Place>, ReadFault>
         ensures reads { AtMostOneMore (map F.reads self.old.files) (map F.reads self.new.files) }
         ensures place { IfOk result (λ place. (files : List Level) → HaveLevels F.has_level self.old.files files → place ≡ place_at (levels (index_of self.old.level0 files)) key.now) }
+
+        // Of any files, what the first of them that has the key has, so that no damaged one is passed over.
+        ensures told { IfOk result (λ place. (entry : Option Entry) × (place ≡ option_flatten entry)
+            × NewestHas F.has_entry self.old.level0.level self.old.files key.now entry) }
         ensures level0 { self.new.level0 ≡ self.old.level0 }
         ensures same { (files : List Level) → HaveLevels F.has_level self.old.files files → HaveLevels F.has_level self.new.files files }
         ensures number { length self.new.files ≡ length self.old.files }
@@ -141,6 +145,8 @@ impl<F: FileLevel> PkIndex<F> {
         requires few { keep < most }
         ensures entries { IfOk result (λ told. (files : List Level) → HaveLevels F.has_level self.old.files files → told.0.items ≡ entries (written keep most (index_of self.old.level0 files))) }
         ensures rise { IfOk result (λ told. T (is_sorted (slice_cmp nat_cmp) told.0.items)) }
+        ensures listed { IfOk result (λ told. (ls : List Level) × HaveLevels F.reads_as (take (length self.old.files - told.1) self.old.files) ls
+            × (told.0.items ≡ entries (merged_for (length self.old.files) keep most (self.old.level0.level ∷ ls)))) }
         ensures keep { IfOk result (λ told. told.1 ≡ (if nat_lt (length self.old.files) most then length self.old.files else keep)) }
         ensures level0 { self.new.level0 ≡ self.old.level0 }
         ensures same { (files : List Level) → HaveLevels F.has_level self.old.files files → HaveLevels F.has_level self.new.files files }
@@ -179,6 +185,11 @@ impl<F: FileLevel> PkIndex<F> {
         ensures footer { IfOk result (λ told. (files : List Level) → HaveLevels F.has_level self.old.files files → told.made.footer ≡ footer_of (written keep most (index_of self.old.level0 files))) }
         ensures sealed { IfOk result (λ told. (files : List Level) → HaveLevels F.has_level self.old.files files → (bytes : List ℕ) → M.sealed_bytes told.made.sealed ≡ Some bytes
             → bytes ≡ index_file (written keep most (index_of self.old.level0 files))) }
+
+        // Of any files, what all those that it merges are read as, so that no damaged one is passed over.
+        ensures listed { IfOk result (λ told. (ls : List Level) × HaveLevels F.reads_as (take (length self.old.files - told.keep) self.old.files) ls
+            × (told.made.footer ≡ footer_of (merged_for (length self.old.files) keep most (self.old.level0.level ∷ ls)))
+            × ((bytes : List ℕ) → M.sealed_bytes told.made.sealed ≡ Some bytes → bytes ≡ index_file (merged_for (length self.old.files) keep most (self.old.level0.level ∷ ls)))) }
         ensures told { IfOk result (λ told. is_some (M.sealed_bytes told.made.sealed) ≡ is_some (M.view maker.old).made) }
         ensures keep { IfOk result (λ told. told.keep ≡ (if nat_lt (length self.old.files) most then length self.old.files else keep)) }
         ensures level0 { self.new.level0 ≡ self.old.level0 }
@@ -205,6 +216,10 @@ impl<F: FileLevel> PkIndex<F> {
     pub fn newer_than(&mut self, alloc: Global, mark: u32) -> Result<Vec<Pair>, ReadFault>
         requires { mark ≤ length self.old.files }
         ensures entries { IfOk result (λ all. (files : List Level) → HaveLevels F.has_level self.old.files files → all.items ≡ entries (merged (newer_than mark (index_of self.old.level0 files)))) }
+
+        // Of any files, what those above the mark are read as, so that no damaged one is passed over.
+        ensures listed { IfOk result (λ all. (ls : List Level) × HaveLevels F.reads_as (take (length self.old.files - mark) self.old.files) ls
+            × (all.items ≡ entries (merged (self.old.level0.level ∷ ls)))) }
         ensures level0 { self.new.level0 ≡ self.old.level0 }
         ensures same { (files : List Level) → HaveLevels F.has_level self.old.files files → HaveLevels F.has_level self.new.files files }
         ensures number { length self.new.files ≡ length self.old.files }
@@ -227,6 +242,7 @@ impl<F: FileLevel> PkIndex<F> {
         ensures index { (files : List Level) (level : Level) → HaveLevels F.has_level self.old.files files → F.has_level file level → HaveLevels F.has_level self.new.files (flushed level keep (index_of self.old.level0 files)).files }
         ensures level { self.new.level0.level ≡ empty }
         ensures spare { self.new.level0.spare ≡ self.old.level0.spare }
+        ensures files { self.new.files ≡ file ∷ drop (length self.old.files - keep) self.old.files }
         ensures number { length self.new.files ≡ keep + 1 }
         ensures aside { self.new.aside ≡ take (length self.old.files - keep) self.old.files }
     {
@@ -241,6 +257,7 @@ impl<F: FileLevel> PkIndex<F> {
         requires within { mark ≤ length self.old.files }
         requires none_aside { self.old.aside ≡ [] }
         ensures index { (files : List Level) (level : Level) → HaveLevels F.has_level self.old.files files → F.has_level file level → HaveLevels F.has_level self.new.files (replaced level mark (index_of self.old.level0 files)).files }
+        ensures files { self.new.files ≡ take (length self.old.files - mark) self.old.files ++ file ∷ [] }
         ensures level0 { self.new.level0 ≡ self.old.level0 }
         ensures number { length self.new.files + mark ≡ length self.old.files + 1 }
         ensures aside { self.new.aside ≡ reverse (drop (length self.old.files - mark) self.old.files) }

@@ -7,8 +7,13 @@ use std::alloc::Global;
 
 impl<R: SealedReader> FileLevel for IndexFile<R> {
     ghost use Rattle.index_file.specs.Entries.{HasLevel};
+    ghost use Rattle.index_file.specs.Listing.{HasEntry, ReadsAs};
 
     ghost has_level = { λ f level. HasLevel f.base f.footer (R.view f.reader) level };
+
+    ghost has_entry = { λ f key entry. HasEntry f.base f.footer (R.view f.reader) key entry };
+
+    ghost reads_as = { λ f level. ReadsAs f.base f.footer (R.view f.reader) level };
 
     ghost reads = { λ f. (R.view f.reader).reads };
 

@@ -1,5 +1,5 @@
 -- Parts of a snapshot and what is read of them.
-use Rattle.std.proofs.Common.{◌≡◌, refl, ap, sym, subst, ◌∙◌, ℕ, zero, suc, ◌+◌, ◌*◌, ◌-◌, ◌<◌, ◌≤◌, min, List, [], ◌∷◌, length, slice_get, Some, None, Bool, true, false, Result, Ok, Err, IfOk, IsTrue, arith}
+use Rattle.std.proofs.Common.{◌≡◌, refl, ap, sym, subst, ◌∙◌, ℕ, zero, suc, ◌+◌, ◌*◌, ◌-◌, ◌<◌, ◌≤◌, List, [], ◌∷◌, length, slice_get, Some, true, IsTrue, arith}
 use Rattle.std.specs.List.{AllByRecursion}
 use Rattle.std.proofs.lemmas.Bool.{and_parts}
 use Rattle.pk_values.specs.Schemas.{Layout}
@@ -12,11 +12,11 @@ use Rattle.dev_traits.specs.Reader.{ReaderView}
 use Rattle.dev_traits.specs.declared.faults.Damaged.{Damaged}
 use Rattle.dev_traits.specs.declared.faults.ReadFault.{ReadFault}
 use Rattle.dev_traits.specs.declared.faults.ReadFault.TheVariants as read
-use Rattle.segment_form.specs.Segments.{blocks_of, footer_of}
-use Rattle.segment_read.specs.Reads.{KnowsFooter, HasRead, HasFailed, MayHaveRead, OfBlock, OfFile, OnDamage, Reading}
+use Rattle.segment_form.specs.Segments.{blocks_of}
+use Rattle.segment_read.specs.Reads.{KnowsFooter, OfBlock, OfFile, OnDamage}
 use Rattle.segment_read.specs.Rows.{IsNoSegment, IsSegmentOf}
 use Rattle.rowsets.specs.Scans.{Piece, alive}
-use Rattle.snapshot_scan.specs.Parts.{PartView, IsPart, IsPieceOf, block_at, live_in, read_by}
+use Rattle.snapshot_scan.specs.Parts.{PartView, IsPart, IsPieceOf, live_in, read_by}
 use Rattle.snapshot_scan.proofs.StreamFacts.{block_is}
 
 abbrev Row : Type 0

@@ -1,6 +1,5 @@
 -- One part of a snapshot.
-use Rattle.std.proofs.Common.{◌≡◌, refl, ap, sym, subst, ◌∙◌, ℕ, ◌<◌, ◌^◌, List, map, length, slice_get, slice_set, get_or, Option, Some, None, Result, Ok, Err, IfSome, IfErr, arith}
-use Rattle.std.specs.List.{AllByRecursion}
+use Rattle.std.proofs.Common.{◌≡◌, ap, sym, subst, ◌∙◌, ℕ, ◌<◌, List, map, length, slice_get, slice_set, get_or, Option, Some, Result, Ok, Err, IfSome, IfErr, arith}
 use Rattle.std.proofs.lemmas.List.{length-map}
 use Rattle.pk_values.specs.Schemas.{Layout}
 use Rattle.dev_traits.specs.Reader.{ReaderView}

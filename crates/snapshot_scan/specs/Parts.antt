@@ -6,10 +6,11 @@ use Rattle.pk_values.specs.declared.cells.Value.{Value}
 use Rattle.column_page.specs.Footers.{is_footer}
 use Rattle.column_page.specs.declared.footers.Footer.{Footer}
 use Rattle.dev_traits.specs.Reader.{ReaderView}
-use Rattle.segment_read.specs.Reads.{KnowsFooter}
+use Rattle.dev_traits.specs.declared.faults.ReadFault.{ReadFault}
+use Rattle.segment_read.specs.Reads.{KnowsFooter, OnDamage}
 use Rattle.segment_read.specs.Rows.{IsSegmentOf}
 use Rattle.segment_read.specs.declared.segments.Segment.{Segment}
-use Rattle.rowsets.specs.Scans.{Piece, alive}
+use Rattle.rowsets.specs.Scans.{Piece, alive, live_rows}
 
 pub record PartView : Type 0 where
   pub number : ℕ
@@ -47,3 +48,14 @@ live_in b piece = alive piece.dead (b * 1024) (block_at b piece.rows)
 
 abbrev pub live_from : ℕ → Piece → List (List Value)
 live_from b piece = alive piece.dead (b * 1024) (drop (b * 1024) piece.rows)
+
+-- these are the live rows of the part's file, and those of its block b
+abbrev pub AreLive : Layout → PartView → List (List Value) → Type 0
+AreLive s part rows = (piece : Piece) → IsPieceOf s part piece → rows ≡ live_rows piece
+
+abbrev pub AreLiveIn : Layout → PartView → ℕ → List (List Value) → Type 0
+AreLiveIn s part b rows = (piece : Piece) → IsPieceOf s part piece → rows ≡ live_in b piece
+
+-- damage isn't told where the file holds a piece
+abbrev pub ToldOfNoPiece : Layout → PartView → ReadFault → Type 0
+ToldOfNoPiece s part fault = OnDamage fault (λ damaged. (piece : Piece) → IsPieceOf s part piece → ⊥)

@@ -1,11 +1,9 @@
 -- What a snapshot is and what it stands for.
-use Rattle.std.specs.Prelude.{◌≡◌, ◌⊎◌, ℕ, ◌+◌, ◌-◌, ◌^◌, ◌<◌, min, List, [], ◌∷◌, length, slice_get, slice_set, Some, Result, MatchResult, ⊤}
+use Rattle.std.specs.Prelude.{◌≡◌, ℕ, ◌+◌, ◌-◌, ◌^◌, ◌<◌, List, [], ◌∷◌, length, slice_get, slice_set, Some, ⊤}
 use Rattle.std.specs.List.{AllByRecursion}
 use Rattle.pk_values.specs.Schemas.{Layout}
 use Rattle.pk_model.specs.Tables.{Rows}
 use Rattle.dev_traits.specs.Reader.{ReaderView}
-use Rattle.dev_traits.specs.declared.faults.ReadFault.{ReadFault}
-use Rattle.segment_read.specs.Reads.{HasFailed, MayHaveRead}
 use Rattle.rowsets.specs.Scans.{Piece, AreRowsOf, listed}
 use Rattle.snapshot_scan.specs.Parts.{PartView, IsPart, IsPieceOf, read_by}
 

@@ -2,8 +2,11 @@
 //! order of their keys.
 #![tactic(auto)]
 
+mod feeds;
 mod live;
 mod parts;
+mod scans;
 mod snapshots;
 
+pub use scans::Scan;
 pub use snapshots::{Snapshot, give_back_snapshot};

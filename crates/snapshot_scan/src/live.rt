@@ -24,8 +24,10 @@ fn has_live(dead: &DelVector, from: u32, to: u32) -> bool
 pub fn next_live(dead: &DelVector, rows: u32, from: u32) -> Option<u32>
     requires few { rows ≤ 65536 }
     ensures there { IfSome result (λ b. (from ≤ b) × (b * 1024 < rows)) }
-    ensures live { IfSome result (λ b. (r : ℕ) × (b * 1024 ≤ r) × (r < b * 1024 + 1024) × (r < rows) × (list_any (λ d. d == r) dead.now ≡ false)) }
-    ensures before { IfSome result (λ b. (r : ℕ) → from * 1024 ≤ r → r < b * 1024 → list_any (λ d. d == r) dead.now ≡ true) }
+    ensures live { IfSome result (λ b. (r : ℕ) × (b * 1024 ≤ r) × (r < b * 1024 + 1024) × (r < rows)
+        × (list_any (λ d. d == r) dead.now ≡ false)) }
+    ensures before { IfSome result (λ b. (r : ℕ) → from * 1024 ≤ r → r < b * 1024
+        → list_any (λ d. d == r) dead.now ≡ true) }
     ensures none { IfNone result ((r : ℕ) → from * 1024 ≤ r → r < rows → list_any (λ d. d == r) dead.now ≡ true) }
 {
     let blocks = rows.div_ceil(1024);

@@ -1,24 +1,21 @@
-ghost use Rattle.std.specs.Prelude.{◌≡◌, ◌-◌, ◌^◌, ◌<◌, min, ℕ, List, map, IfOk, IfErr, OnOk, OnErr, IfSome, IfNone, IsErr, None, Some, [], ◌∷◌, ◌++◌, length, slice_get};
-ghost use Rattle.std.specs.FinMap.{len, values};
-ghost use Rattle.pk_values.specs.declared.cells.Value.{Value};
+ghost use Rattle.std.specs.Prelude.{◌≡◌, ◌-◌, ◌^◌, ◌<◌, min, map, IfOk, IfErr, IfSome, length, slice_get};
+ghost use Rattle.std.specs.FinMap.{len};
 ghost use Rattle.pk_model.specs.Tables.{Rows};
 ghost use Rattle.dev_traits.specs.Causes.{Counts};
 ghost use Rattle.dev_traits.specs.View.{Calm};
-ghost use Rattle.dev_traits.specs.declared.faults.Part.TheVariants as place;
-ghost use Rattle.column_page.specs.declared.footers.Footer.{Footer};
-ghost use Rattle.segment_read.specs.Blocks.{BlockShown};
-ghost use Rattle.segment_read.specs.Reads.{block_in, IsDamage, OfBlock, OfFile, OnDamage, Reading};
+ghost use Rattle.segment_read.specs.Reads.{OnDamage, Reading};
 ghost use Rattle.segment_read.specs.Rows.{IsRowsDamage};
-ghost use Rattle.rowsets.specs.Scans.{Piece};
 ghost use Rattle.rowsets.specs.Scans as scans;
-ghost use Rattle.snapshot_scan.specs.Parts.{IsPieceOf, live_in, PartView, seen};
-ghost use Rattle.snapshot_scan.specs.Snapshots.{AreParts, fault_count, IsSnapshotOf, live_count, ReadsPart, SnapshotView};
+ghost use Rattle.snapshot_scan.specs.Parts.{AreLive, AreLiveIn, seen, ToldOfNoPiece};
+ghost use Rattle.snapshot_scan.specs.Scans.{HasLeft, HasLive, IsBlockDamage, IsCursor, ReadOn};
+ghost use Rattle.snapshot_scan.specs.Snapshots.{AreParts, fault_count, IsSnapshotOf, live_count, ReadsPart};
 
-use crate::parts::{live_block, live_part};
+use crate::parts::{first_cursor, live_block, live_part, read_on};
 use column_page::Footer;
 use del_vector::DelVector;
 use dev_traits::{ReadFault, SealedReader, Store};
 use pk_values::{Row, Schema};
+use row_merge::Cursor;
 use segment_read::Segment;
 use std::alloc::Global;
 use std::marker::Model;
@@ -128,14 +125,18 @@ impl<R: SealedReader> Snapshot<R> {
     /// Those of reading its rows.
     pub fn segment_rows(&mut self, alloc: Global, i: u64) -> Result<Vec<Row>, ReadFault>
         requires { i < length self.old.parts }
-        ensures live { IfOk result (λ live. IfSome (slice_get self.old.parts i) (λ part. (piece : Piece) → IsPieceOf self.old.schema part piece → live.items ≡ scans.live_rows piece)) }
-        ensures damaged { IfErr result (λ e. IfSome (slice_get self.old.parts i) (λ part. OnDamage e (IsRowsDamage self.old.schema part.footer part.number part.reader))) }
+        ensures live { IfOk result (λ live. IfSome (slice_get self.old.parts i) (λ part.
+            AreLive self.old.schema part live.items)) }
+        ensures damaged { IfErr result (λ e. IfSome (slice_get self.old.parts i) (λ part.
+            OnDamage e (IsRowsDamage self.old.schema part.footer part.number part.reader))) }
 
         // No damage is told of the file of a segment.
-        ensures intact { IfErr result (λ e. IfSome (slice_get self.old.parts i) (λ part. OnDamage e (λ damaged. (piece : Piece) → IsPieceOf self.old.schema part piece → ⊥))) }
+        ensures intact { IfErr result (λ e. IfSome (slice_get self.old.parts i) (λ part.
+            ToldOfNoPiece self.old.schema part e)) }
 
         // Of all readers that of this segment alone is read.
-        ensures reading { ReadsPart i self.old.parts self.new.parts (λ part reader. Reading (length part.footer.blocks) part.reader reader result) }
+        ensures reading { ReadsPart i self.old.parts self.new.parts (λ part reader.
+            Reading (length part.footer.blocks) part.reader reader result) }
         ensures version { self.new.version ≡ self.old.version }
         ensures schema { self.new.schema ≡ self.old.schema }
     {
@@ -149,17 +150,49 @@ impl<R: SealedReader> Snapshot<R> {
     pub fn block_rows(&mut self, alloc: Global, i: u64, b: u32) -> Result<Vec<Row>, ReadFault>
         requires there { i < length self.old.parts }
         requires block { IfSome (slice_get self.old.parts i) (λ part. b < length part.footer.blocks) }
-        ensures live { IfOk result (λ live. IfSome (slice_get self.old.parts i) (λ part. (piece : Piece) → IsPieceOf self.old.schema part piece → live.items ≡ live_in b piece)) }
-        ensures damaged { IfErr result (λ e. IfSome (slice_get self.old.parts i) (λ part. OnDamage e (IsDamage part.number (place.Block b) (λ shown.
-            OfFile part.reader (λ file. OfBlock part.footer b (λ mark. BlockShown self.old.schema mark (block_in file mark) shown)))))) }
+        ensures live { IfOk result (λ live. IfSome (slice_get self.old.parts i) (λ part.
+            AreLiveIn self.old.schema part b live.items)) }
+        ensures damaged { IfErr result (λ e. IfSome (slice_get self.old.parts i) (λ part.
+            OnDamage e (IsBlockDamage self.old.schema part b))) }
 
         // No damage is told of the file of a segment.
-        ensures intact { IfErr result (λ e. IfSome (slice_get self.old.parts i) (λ part. OnDamage e (λ damaged. (piece : Piece) → IsPieceOf self.old.schema part piece → ⊥))) }
-        ensures reading { ReadsPart i self.old.parts self.new.parts (λ part reader. Reading 1 part.reader reader result) }
+        ensures intact { IfErr result (λ e. IfSome (slice_get self.old.parts i) (λ part.
+            ToldOfNoPiece self.old.schema part e)) }
+        ensures reading { ReadsPart i self.old.parts self.new.parts (λ part reader.
+            Reading 1 part.reader reader result) }
         ensures version { self.new.version ≡ self.old.version }
         ensures schema { self.new.schema ≡ self.old.schema }
     {
         live_block(alloc, &self.schema, &mut self.parts[i as usize], b)
+    }
+
+    /// The schema of the rows.
+    pub fn schema(&self) -> &Schema
+        ensures { result.now ≡ self.now.schema }
+    {
+        &self.schema
+    }
+
+    // The cursor before the live rows of a segment.
+    pub(crate) fn first_cursor(&self, alloc: Global, i: u64) -> Cursor
+        requires { i < length self.now.parts }
+        ensures cursor { IfSome (slice_get self.now.parts i) (λ part. IsCursor self.now.schema part result) }
+        ensures rows { IfSome (slice_get self.now.parts i) (λ part.
+            HasLeft self.now.schema part scans.live_rows result) }
+    {
+        first_cursor(alloc, &self.parts[i as usize])
+    }
+
+    // The cursor at the live rows of a block that has one, by one read.
+    pub(crate) fn read_on(&mut self, alloc: Global, i: u64, b: u32) -> Result<Cursor, ReadFault>
+        requires there { i < length self.old.parts }
+        requires live { IfSome (slice_get self.old.parts i) (λ part. HasLive part.footer.rows part.dead b) }
+        ensures read { ReadsPart i self.old.parts self.new.parts (λ part reader.
+            ReadOn self.old.schema part b reader result) }
+        ensures version { self.new.version ≡ self.old.version }
+        ensures schema { self.new.schema ≡ self.old.schema }
+    {
+        read_on(alloc, &self.schema, &mut self.parts[i as usize], b)
     }
 }
 

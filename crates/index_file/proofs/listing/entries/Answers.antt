@@ -5,6 +5,7 @@ use Rattle.std.specs.Ordering.{nat_cmp}
 use Rattle.std.proofs.lemmas.List.Sorted.{ranks_by, answers_always}
 use Rattle.index_level0.specs.Levels.{Entry, Level}
 use Rattle.index_level0.proofs.LevelFacts.{Pairs, sorted_entries}
+use Rattle.index_file.proofs.ListingFacts.{level_of}
 use Rattle.index_file.proofs.ReaderFacts.{file_damage, knows_still, no_damage, same_read}
 use Rattle.index_file.proofs.listing.entries.Goals as goal
 
@@ -51,6 +52,22 @@ returns-clause-level g c level h =
     sorted_entries c.in-Ok.all.items c.sort_unstable_by.new.self.items c.in-Ok.ensures.distinct c.sort_unstable_by.ensures.permutation
     (c.sort_unstable_by.ensures.sorted _ (ranks_by nat_list_cmp_total key_of) (answers_always _ _ _ (λ f a r f' k. search rules)))
     ∙ ap (λ (l : Level). entries l) (c.in-Ok.ensures.level level h).0
+
+pub returns-clause-listed : goal.returns-clause-listed
+unfolding key_of
+returns-clause-listed g c file told =
+    let has = c.in-Ok.ensures.listed file told in
+    record {
+      buckets = has.0;
+      number = has.1;
+      have = has.2;
+      counted = omega (arith, ap (λ (xs : Pairs). length xs) has.3, c.len.ensures, c.in-Ok.all.ok.0, c.if-len-file.false);
+      level_is =
+        level_of c.sort_unstable_by.new.self.items c.in-Ok.all.items
+        (sorted_entries c.in-Ok.all.items c.sort_unstable_by.new.self.items c.in-Ok.ensures.distinct c.sort_unstable_by.ensures.permutation
+        (c.sort_unstable_by.ensures.sorted _ (ranks_by nat_list_cmp_total key_of) (answers_always _ _ _ (λ f a r f' k. search rules))))
+        ∙ ap (λ (xs : Pairs). from_entries xs) has.3;
+    }
 
 pub returns-clause-rise : goal.returns-clause-rise
 unfolding key_of

@@ -1,7 +1,9 @@
-use Rattle.std.proofs.Common.{◌≡◌, ◌++◌, ◌∙◌, ap, sym, subst, arith, length, List}
+use Rattle.std.proofs.Common.{◌≡◌, ◌++◌, ◌∷◌, [], ◌∙◌, ap, sym, subst, refl, arith, length, List, ℕ}
 use Rattle.index_file.specs.Buckets.{Pair}
-use Rattle.index_file.specs.Entries.{sums_fit}
+use Rattle.index_file.specs.Entries.{IsTheBucket, sums_fit}
+use Rattle.index_file.specs.Reads.{bucket_in, OfBucket}
 use Rattle.index_file.proofs.EntriesFacts.{as_many, based, belong_sums, Gathered, gathered_more, joined_on, level_of_all, none_gathered}
+use Rattle.index_file.proofs.ListingFacts.{based_on, entries_on, one_more}
 use Rattle.index_file.proofs.ReaderFacts.{bucket_damage, fails_later, knows_still, looked_all, looked_none, looked_on, some_mark, wants_later}
 use Rattle.index_file.proofs.listing.gather.Goals as goal
 
@@ -10,6 +12,7 @@ loop-b-init g c = record {
   read = looked_none (g.R.SealedReader.view c.args.reader.now);
   gathered = subst (λ (xs : List Pair). Gathered (length c.args.footer.now.buckets) 0 xs) (sym c.new-all.ensures.items) (none_gathered (length c.args.footer.now.buckets));
   level = λ file told level h. c.new-all.ensures.items;
+  listed = λ file told. ([], refl, tt, c.new-all.ensures.items);
 }
 
 pub read_entries_of-requires-clause-known : goal.read_entries_of-requires-clause-known
@@ -47,6 +50,15 @@ loop-b-preserved g c =
     record {
       read = looked_on b (g.R.SealedReader.view c.args.reader.now) (g.R.SealedReader.view c.loop-b.reader) (g.R.SealedReader.view c.read_entries_of.new.reader) inv.read c.in-Ok.ensures.reading;
       gathered = gathered_more (length f.buckets) b base all es new inv.gathered c.in-Ok.ensures.rise c.in-Ok.ensures.belong put;
+      listed = λ file told.
+          let before = inv.listed file told in
+          (
+            before.0 ++ es ∷ [],
+            one_more before.0 es b before.1,
+            entries_on base f file 0 before.0 es before.2
+            (subst (λ (k : ℕ). OfBucket f k (λ m. IsTheBucket (length f.buckets) k base (bucket_in file m) es)) (omega (arith, before.1)) (c.in-Ok.ensures.entries file (inv.read.same.bytes ∙ told))),
+            based_on base before.0 es all new before.3 put,
+          );
       level = λ file told level h. joined_on base f file level h b mark.0 all es new mark.1 (c.in-Ok.ensures.entries file (inv.read.same.bytes ∙ told) mark.0 mark.1) (inv.level file told level h) put;
     }
 
@@ -58,6 +70,11 @@ returns-clause-level g c level h =
       level_of_all c.args.base f h.file level h.is c.loop-b.b c.loop-b.all.items (omega (arith, c.loop-b-test.false, c.len-b-end.ensures)) so_far,
       as_many c.args.base f h.file level h.is c.loop-b.b c.loop-b.all.items (omega (arith, c.loop-b-test.false, c.len-b-end.ensures)) so_far inv.gathered.distinct,
     )
+
+pub returns-clause-listed : goal.returns-clause-listed
+returns-clause-listed g c file told =
+    let so_far = c.loop-b.invariant.listed file told in
+    (so_far.0, omega (arith, so_far.1, c.loop-b-test.false, c.loop-b.auto.b-end, c.len-b-end.ensures), so_far.2, so_far.3)
 
 pub returns-clause-reading : goal.returns-clause-reading
 returns-clause-reading g c =

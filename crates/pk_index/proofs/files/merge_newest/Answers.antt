@@ -1,10 +1,13 @@
-use Rattle.std.proofs.Common.{◌∙◌, ◌<◌, arith, length, refl}
+use Rattle.std.proofs.Common.{◌∙◌, ◌++◌, ◌∷◌, [], ◌<◌, ℕ, ap, arith, length, refl, subst, take}
 use Rattle.std.proofs.lemmas.List.{drop-set-lt}
-use Rattle.std.specs.FinMap.{from_sorted}
+use Rattle.std.specs.FinMap.{entries, from_sorted}
 use Rattle.index_levels.specs.Levels.{over}
 use Rattle.pk_index.proofs.CauseFacts.{calm_fault, fails_once, none_have, told_same}
 use Rattle.pk_index.proofs.IndexFacts.{still_have}
-use Rattle.pk_index.proofs.MergedFacts.{merged_alone, merges_on, risen}
+use Rattle.pk_index.specs.Shown.{HaveLevels}
+use Rattle.pk_index.proofs.MergeFacts.{Pairs}
+use Rattle.pk_index.proofs.MergedFacts.{merged_alone, merges_more, merges_on, risen}
+use Rattle.pk_index.proofs.ToldFacts.{levels_on, rest_on}
 use Rattle.pk_index.proofs.files.merge_newest.Goals as goal
 
 pub loop-i-init : goal.loop-i-init
@@ -12,6 +15,8 @@ loop-i-init g c =
     record {
       same = λ ls have. have;
       so_far = λ ls have. c.in_ok-all.ensures ∙ merged_alone c.args.level0.now.level;
+      rest = refl;
+      listed = ([], tt, c.in_ok-all.ensures ∙ merged_alone c.args.level0.now.level);
       older = refl;
       named = refl;
       calm = refl;
@@ -35,6 +40,17 @@ loop-i-preserved g c =
           merges_on g.F.FileLevel.has_level c.args.level0.now.level c.loop-i.files ls c.loop-i.i c.index-files-i.result
           c.deref.result.now c.deref-in-loop-i.result.now c.in-Ok-merge.both.items less (c.loop-i.invariant.same ls have)
           (c.deref.ensures.value ∙ c.loop-i.invariant.so_far ls have) (λ level is. c.deref-in-loop-i.ensures.value ∙ c.in-Ok.ensures.entries level is) c.in-Ok-merge.ensures;
+      rest = rest_on c.args.files.now c.loop-i.files c.loop-i.i c.entries-in-loop-i.new.self c.loop-i.invariant.rest;
+      listed =
+        let before = c.loop-i.invariant.listed in
+        let older = c.in-Ok.older.items in
+        (
+          before.0 ++ from_sorted older ∷ [],
+          levels_on g.F.FileLevel.reads_as c.args.files.now c.loop-i.files c.loop-i.i c.index-files-i.result before.0 (from_sorted older) less (omega (arith, c.requires, c.loop-i-test.true))
+          c.loop-i.invariant.rest before.1 c.in-Ok.ensures.listed,
+          merges_more c.args.level0.now.level before.0 c.deref.result.now older c.in-Ok-merge.both.items c.in-Ok.ensures.rise (c.deref.ensures.value ∙ before.2)
+          (c.in-Ok-merge.ensures ∙ ap (λ (es : Pairs). entries (over c.deref.result.now (from_sorted es))) c.deref-in-loop-i.ensures.value),
+        );
       older = drop-set-lt c.args.count c.loop-i.files c.loop-i.i c.entries-in-loop-i.new.self (omega arith) ∙ c.loop-i.invariant.older;
       named = told_same g.F.FileLevel.named c.args.files.now c.loop-i.files c.loop-i.i c.index-files-i.result c.entries-in-loop-i.new.self c.entries-in-loop-i.ensures.named c.loop-i.invariant.named;
       calm = told_same g.F.FileLevel.faults c.args.files.now c.loop-i.files c.loop-i.i c.index-files-i.result c.entries-in-loop-i.new.self (c.in-Ok.ensures.cause.well (λ e. cc)) c.loop-i.invariant.calm;
@@ -59,3 +75,8 @@ returns-in-Err-merge-clause-named g c = told_same g.F.FileLevel.named c.args.fil
 
 pub returns-in-Err-merge-clause-cause : goal.returns-in-Err-merge-clause-cause
 returns-in-Err-merge-clause-cause g c = calm_fault g.F.FileLevel.faults c.args.files.now c.loop-i.files c.loop-i.i c.index-files-i.result c.entries-in-loop-i.new.self (c.in-Ok.ensures.cause.well (λ e. cc)) c.loop-i.invariant.calm
+
+pub returns-clause-listed : goal.returns-clause-listed
+returns-clause-listed g c =
+    let told = c.loop-i.invariant.listed in
+    (told.0, subst (λ (n : ℕ). HaveLevels g.F.FileLevel.reads_as (take n c.args.files.now) told.0) (omega (arith, c.loop-i-test.false, c.loop-i.auto.i-end)) told.1, told.2)

@@ -12,6 +12,8 @@ invariant-loop-i g l =
     record {
       same : (ls : List Level) → HaveLevels g.F.FileLevel.has_level l.fn.files ls → HaveLevels g.F.FileLevel.has_level l.files ls;
       so_far : (ls : List Level) → HaveLevels g.F.FileLevel.has_level l.fn.files ls → l.all.items ≡ entries (merged (l.level0.level ∷ take l.i ls));
+      rest : drop l.i l.files ≡ drop l.i l.fn.files;
+      listed : (ls : List Level) × HaveLevels g.F.FileLevel.reads_as (take l.i l.fn.files) ls × (l.all.items ≡ entries (merged (l.level0.level ∷ ls)));
       older : drop l.count l.files ≡ drop l.count l.fn.files;
       named : map g.F.FileLevel.named l.files ≡ map g.F.FileLevel.named l.fn.files;
       calm : map g.F.FileLevel.faults l.files ≡ map g.F.FileLevel.faults l.fn.files;

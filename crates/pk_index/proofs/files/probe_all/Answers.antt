@@ -1,8 +1,30 @@
-use Rattle.std.proofs.Common.{sym, ◌∙◌, ◌<◌, arith, length}
+use Rattle.std.proofs.Common.{refl, sym, ◌∙◌, ◌<◌, arith, length}
 use Rattle.pk_index.proofs.CauseFacts.{fails_once, none_fails, none_have, told_same}
 use Rattle.pk_index.proofs.IndexFacts.{found_there, missed_there, none_left, still_have}
 use Rattle.pk_index.proofs.ReadFacts.{counted_all, counted_on, counted_once, uncounted_on}
+use Rattle.pk_index.proofs.ToldFacts.{found_first, missed_first, none_first, rest_on}
 use Rattle.pk_index.proofs.files.probe_all.Goals as goal
+
+pub loop-i-init : goal.loop-i-init
+loop-i-init g c = record {
+  same = λ ls have. have;
+  counted = tt;
+  uncounted = refl;
+  named = refl;
+  calm = refl;
+  rest = refl;
+  told = λ entry has. has;
+  none = λ ls have. refl;
+}
+
+pub returns-then-is_some-clause-told : goal.returns-then-is_some-clause-told
+returns-then-is_some-clause-told g c =
+    let less : c.loop-i.i < length c.loop-i.files = omega arith in
+    found_first (λ f. g.F.FileLevel.has_entry f c.args.key.now) c.args.files.now c.loop-i.files c.loop-i.i c.index-files-i.result c.in-Ok.found less
+    c.loop-i.invariant.rest c.loop-i.invariant.told c.in-Ok.ensures.told (sym c.if-is_some.ensures)
+
+pub returns-clause-told : goal.returns-clause-told
+returns-clause-told g c = none_first (λ f. g.F.FileLevel.has_entry f c.args.key.now) c.args.files.now c.loop-i.i c.loop-i-test.false c.loop-i.invariant.told
 
 pub returns-in-Err-clause-same : goal.returns-in-Err-clause-same
 returns-in-Err-clause-same g c ls have =
@@ -27,6 +49,10 @@ loop-i-preserved g c =
       uncounted = uncounted_on g.F.FileLevel.reads c.args.files.now c.loop-i.files c.loop-i.i c.index-files-i.result c.probe.new.self less c.probe.ensures.reads c.loop-i.invariant.counted c.loop-i.invariant.uncounted;
       named = told_same g.F.FileLevel.named c.args.files.now c.loop-i.files c.loop-i.i c.index-files-i.result c.probe.new.self c.probe.ensures.named c.loop-i.invariant.named;
       calm = told_same g.F.FileLevel.faults c.args.files.now c.loop-i.files c.loop-i.i c.index-files-i.result c.probe.new.self (c.in-Ok.ensures.cause.well (λ e. cc)) c.loop-i.invariant.calm;
+      rest = rest_on c.args.files.now c.loop-i.files c.loop-i.i c.probe.new.self c.loop-i.invariant.rest;
+      told =
+        missed_first (λ f. g.F.FileLevel.has_entry f c.args.key.now) c.args.files.now c.loop-i.files c.loop-i.i c.index-files-i.result c.in-Ok.found less
+        c.loop-i.invariant.rest c.loop-i.invariant.told c.in-Ok.ensures.told (sym c.if-is_some.ensures);
       none = λ ls have.
           missed_there g.F.FileLevel.has_level c.loop-i.files c.loop-i.i c.index-files-i.result c.args.key.now c.in-Ok.found less ls
           (c.loop-i.invariant.same ls have) (c.loop-i.invariant.none ls have) c.in-Ok.ensures.entry (sym c.if-is_some.ensures);

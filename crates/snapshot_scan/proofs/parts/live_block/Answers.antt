@@ -1,6 +1,8 @@
-use Rattle.std.proofs.Common.{refl, arith, length}
+use Rattle.std.proofs.Common.{refl, arith, length, sym, subst, ◌∙◌, ◌*◌, All, IsTrue}
+use Rattle.pk_values.specs.Schemas.{fits_row}
 use Rattle.segment_read.proofs.Scanning.{if_ok_so}
 use Rattle.snapshot_scan.specs.Parts.{seen}
+use Rattle.snapshot_scan.proofs.CursorFacts.{alive_fit, live_given}
 use Rattle.snapshot_scan.proofs.PartFacts.{block_within, few_rows, live_of_block, no_damage, part_same}
 use Rattle.snapshot_scan.proofs.parts.live_block.Goals as goal
 
@@ -22,3 +24,12 @@ only_live-requires g c =
     let within = block_within c.args.part.now.0.footer c.args.b (length c.in-Ok.rows.items) c.requires.part.is c.requires.there c.in-Ok.ensures.count in
     let few = few_rows c.args.part.now.0.footer c.requires.part.is in
     omega arith
+
+pub returns-in-Ok-clause-fit : goal.returns-in-Ok-clause-fit
+returns-in-Ok-clause-fit g c =
+    if_ok_so c.only_live.result _ _ (λ live are. subst (λ rows. All (λ row. IsTrue (fits_row c.args.schema.now row)) rows) (sym are)
+    (alive_fit c.args.schema.now c.args.part.now.1 (c.args.b * 1024) c.in-Ok.rows.items c.in-Ok.ensures.fit)) c.only_live.ensures.live
+
+pub returns-in-Ok-clause-some : goal.returns-in-Ok-clause-some
+returns-in-Ok-clause-some g c live =
+    if_ok_so c.only_live.result _ _ (λ found are none. live_given c.args.part.now.0.footer c.args.part.now.1 c.args.b c.in-Ok.rows.items c.requires.part.is live c.in-Ok.ensures.count (sym are ∙ none)) c.only_live.ensures.live

@@ -1,4 +1,4 @@
-use Rattle.std.proofs.Common.{refl, arith, length}
+use Rattle.std.proofs.Common.{refl}
 use Rattle.segment_read.proofs.Scanning.{if_ok_so}
 use Rattle.snapshot_scan.specs.Parts.{seen}
 use Rattle.snapshot_scan.proofs.PartFacts.{live_of_part, no_damage, part_same}

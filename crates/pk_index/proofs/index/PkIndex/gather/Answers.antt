@@ -1,10 +1,10 @@
-use Rattle.std.proofs.Common.{◌≡◌, ap, subst, sym, ◌∙◌, ◌∷◌, ◌-◌, ◌&&◌, ◌==◌, not, nat_lt, false, arith, length, take}
+use Rattle.std.proofs.Common.{◌≡◌, ℕ, ap, subst, sym, ◌∙◌, ◌∷◌, ◌-◌, ◌&&◌, ◌==◌, not, nat_lt, false, arith, length, take}
 use Rattle.std.specs.FinMap.{entries}
 use Rattle.index_level0.specs.Levels.{LevelWithRoom}
 use Rattle.index_levels.specs.Levels.{merged}
 use Rattle.pk_index.specs.Shown.{HaveLevels, index_of}
 use Rattle.pk_index.proofs.IndexFacts.{same_number}
-use Rattle.pk_index.proofs.MergedFacts.{all_written, if_fewer, if_some, kept_fewer, kept_more, newest_written}
+use Rattle.pk_index.proofs.MergedFacts.{all_for, all_written, if_fewer, if_some, kept_fewer, kept_more, newest_written, places_for}
 use Rattle.pk_index.proofs.index.PkIndex.gather.Goals as goal
 use Rattle.pk_index.proofs.index.PkIndex.gather.Goals.{then-count-most, else-count-most, else-count-most-2-via-then-count-most-2+else-keep-eq0, else-count-most-2-via-else-count-most-2}
 
@@ -42,3 +42,35 @@ returns-clause-entries g c files have =
     ])
     (c.in_ok-all.ensures.entries files lent
     ∙ ap (λ (l : LevelWithRoom). entries (merged (l.level ∷ take n files))) (λ i. (c.self.view_is i).level0))
+
+pub returns-then-keep-eq0-clause-listed : goal.returns-then-keep-eq0-clause-listed
+returns-then-keep-eq0-clause-listed g c =
+    let told = c.in_ok-all.ensures.listed in
+    let count = c.mark-count.ensures.count in
+    let n = c.mark-count.result - c.if-count-most.kept in
+    let lent = subst (λ fs. HaveLevels g.F.FileLevel.reads_as (take n fs) told.0) (c.deref_mut.ensures.value ∙ (λ i. (c.self.view_is i).files)) told.1 in
+    (
+      told.0,
+      subst (λ (m : ℕ). HaveLevels g.F.FileLevel.reads_as (take (m - c.if-count-most.kept) c.args.self.now.files) told.0) count lent,
+      places_for (length c.args.self.now.files) c.args.keep c.args.most (c.args.self.now.level0.level ∷ told.0) c.in_ok-all.all.items c.places.result.items
+      (omega (arith, count)) (omega arith)
+      (told.2 ∙ ap (λ (l : LevelWithRoom). entries (merged (l.level ∷ told.0))) (λ i. (c.self.view_is i).level0)) c.places.ensures.places,
+    )
+
+pub returns-clause-listed : goal.returns-clause-listed
+returns-clause-listed g c =
+    let told = c.in_ok-all.ensures.listed in
+    let count = c.mark-count.ensures.count in
+    let n = c.mark-count.result - c.if-count-most.kept in
+    let lent = subst (λ fs. HaveLevels g.F.FileLevel.reads_as (take n fs) told.0) (c.deref_mut.ensures.value ∙ (λ i. (c.self.view_is i).files)) told.1 in
+    let some : (not (nat_lt (length c.args.self.now.files) c.args.most) && (c.args.keep == 0)) ≡ false =
+    elim c.else-count-most-2.branch [
+      | else-count-most-2-via-then-count-most-2+else-keep-eq0 w ↦ if_some (length c.args.self.now.files) c.args.most c.args.keep w.if-keep-eq0.false
+      | else-count-most-2-via-else-count-most-2 w ↦ if_fewer (length c.args.self.now.files) c.args.most c.args.keep (omega (arith, count))
+    ] in
+    (
+      told.0,
+      subst (λ (m : ℕ). HaveLevels g.F.FileLevel.reads_as (take (m - c.if-count-most.kept) c.args.self.now.files) told.0) count lent,
+      all_for (length c.args.self.now.files) c.args.keep c.args.most (c.args.self.now.level0.level ∷ told.0) c.in_ok-all.all.items some
+      (told.2 ∙ ap (λ (l : LevelWithRoom). entries (merged (l.level ∷ told.0))) (λ i. (c.self.view_is i).level0)),
+    )

@@ -2,9 +2,8 @@ use Rattle.std.proofs.Common.{◌≡◌, ◌<◌, sym, subst, map, length, slice
 use Rattle.dev_traits.specs.declared.faults.Part.TheVariants as place
 use Rattle.segment_read.specs.Blocks.{BlockShown}
 use Rattle.segment_read.specs.Reads.{block_in, IsDamage, OfBlock, OfFile, OnDamage, Reading}
-use Rattle.segment_read.specs.Rows.{IsRowsDamage}
 use Rattle.segment_read.proofs.Scanning.{if_ok_so}
-use Rattle.rowsets.specs.Scans.{Piece, live_rows}
+use Rattle.rowsets.specs.Scans.{Piece}
 use Rattle.snapshot_scan.specs.Parts.{IsPieceOf, live_in, seen}
 use Rattle.snapshot_scan.specs.Snapshots.{ReadsPart, SnapshotView}
 use Rattle.snapshot_scan.proofs.SnapFacts.{from_at, if_at, if_err_so, part_at, part_is, parts_are, reads_part}

@@ -1,4 +1,4 @@
-use Rattle.std.proofs.Common.{◌≡◌, ◌≤◌, ◌∙◌, ◌-◌, List, ap, sym, subst, arith, length, map, take, slice_get, Some}
+use Rattle.std.proofs.Common.{◌≡◌, ◌≤◌, ◌∙◌, ◌-◌, List, ap, subst, arith, length, map, slice_get, Some}
 use Rattle.std.specs.List.{AllByRecursion}
 use Rattle.snapshot_scan.specs.Parts.{IsPart, PartView, seen}
 use Rattle.snapshot_scan.specs.Snapshots.{SnapshotView}

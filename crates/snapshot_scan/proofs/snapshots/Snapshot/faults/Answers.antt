@@ -1,4 +1,4 @@
-use Rattle.std.proofs.Common.{◌≡◌, ◌-◌, ◌^◌, List, ap, subst, map, slice_get, Some}
+use Rattle.std.proofs.Common.{◌≡◌, ◌-◌, ◌^◌, List, ap, subst, slice_get, Some}
 use Rattle.snapshot_scan.specs.Parts.{PartView, seen}
 use Rattle.snapshot_scan.specs.Snapshots.{SnapshotView}
 use Rattle.snapshot_scan.proofs.CountFacts.{faults_step, shown_at}

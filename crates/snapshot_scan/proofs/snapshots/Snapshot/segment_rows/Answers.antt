@@ -1,13 +1,11 @@
 use Rattle.std.proofs.Common.{◌≡◌, ◌<◌, sym, subst, map, length, slice_get, slice_set, IfOk, IfErr, IfSome}
-use Rattle.dev_traits.specs.declared.faults.Part.TheVariants as place
-use Rattle.segment_read.specs.Blocks.{BlockShown}
-use Rattle.segment_read.specs.Reads.{block_in, IsDamage, OfBlock, OfFile, OnDamage, Reading}
+use Rattle.segment_read.specs.Reads.{OnDamage, Reading}
 use Rattle.segment_read.specs.Rows.{IsRowsDamage}
 use Rattle.segment_read.proofs.Scanning.{if_ok_so}
 use Rattle.rowsets.specs.Scans.{Piece, live_rows}
-use Rattle.snapshot_scan.specs.Parts.{IsPieceOf, live_in, seen}
+use Rattle.snapshot_scan.specs.Parts.{IsPieceOf, seen}
 use Rattle.snapshot_scan.specs.Snapshots.{ReadsPart, SnapshotView}
-use Rattle.snapshot_scan.proofs.SnapFacts.{from_at, if_at, if_err_so, part_at, part_is, parts_are, reads_part}
+use Rattle.snapshot_scan.proofs.SnapFacts.{if_at, if_err_so, part_at, part_is, parts_are, reads_part}
 use Rattle.snapshot_scan.proofs.snapshots.Snapshot.segment_rows.Goals as goal
 
 pub live_part-requires : goal.live_part-requires

@@ -1,0 +1,5 @@
+pub mod Lines
+pub mod Results
+pub mod Leaving
+pub mod Prepared
+pub mod Writing

@@ -1,0 +1,9 @@
+//! Loads as a tablet takes them: prepared outside of any turn, published in one.
+#![tactic(auto)]
+
+mod files;
+mod lines;
+mod prepared;
+mod results;
+
+pub use prepared::{Prepared, prepare};

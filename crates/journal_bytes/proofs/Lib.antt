@@ -1,0 +1,4 @@
+pub mod BodiesTell
+pub mod NoBody
+pub mod NoSchema
+pub mod Joined

@@ -1,0 +1,6 @@
+use Rattle.std.proofs.Common.{◌∷◌, refl}
+use Rattle.journal_bytes.proofs.NoBody.{no_floor}
+use Rattle.journal_bytes.proofs.record_readers.read_floor.Goals as goal
+
+pub returns-in-Err-clause-none : goal.returns-in-Err-clause-none
+returns-in-Err-clause-none c is = no_floor (4 ∷ c.args.rest.now) c.args.rest.now refl (c.in-Err.ensures.none is)

@@ -1,0 +1,4 @@
+pub mod LookupFacts
+pub mod StepFacts
+pub mod SpanFacts
+pub mod LoopFacts

@@ -1,0 +1,5 @@
+pub mod StepFacts
+pub mod IndexFacts
+pub mod GroupFacts
+pub mod FindFacts
+pub mod ChangeFacts

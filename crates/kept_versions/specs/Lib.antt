@@ -1,0 +1,4 @@
+pub mod Indexes
+pub mod Files
+pub mod Changes
+pub mod Marking

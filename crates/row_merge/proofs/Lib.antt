@@ -1,0 +1,4 @@
+pub mod OrderFacts
+pub mod MergeFacts
+pub mod BracketFacts
+pub mod UnionFacts

@@ -1,0 +1,4 @@
+pub mod Merge
+pub mod Cursors
+pub mod Brackets
+pub mod Unions

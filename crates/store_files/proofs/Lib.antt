@@ -1,0 +1,4 @@
+pub mod BlockFacts
+pub mod KeyFacts
+pub mod FileFacts
+pub mod IndexFacts
