@@ -5,7 +5,7 @@ use Rattle.pk_values.specs.Schemas.{Layout}
 use Rattle.pk_values.specs.declared.cells.Value.{Value}
 use Rattle.pk_model.specs.Tables.{Rows}
 use Rattle.dev_traits.specs.declared.faults.ReadFault.{ReadFault}
-use Rattle.rowsets.specs.Scans.{Piece, live_rows}
+use Rattle.rowsets.specs.Scans.{AreRowsOf, listed, Piece, live_rows}
 use Rattle.row_merge.specs.Cursors.{CursorView}
 use Rattle.row_merge.specs.Merge.{merge_all}
 use Rattle.snapshot_scan.specs.Scans.{AreToCome, Gives, IsDue, IsSettled, rows_left}
@@ -64,4 +64,13 @@ all_come v now cs f m left schema stands = record {
   pieces = stands.pieces;
   told = (left stands.pieces stands.told).0;
   merged = scan_begins v.schema v.parts stands.pieces m stands.told stands.rows ∙ ap (λ l. merge_all l (map live_rows stands.pieces)) (sym schema) ∙ ap (merge_all now.schema) (sym (left stands.pieces stands.told).1);
+}
+
+-- a snapshot whose readers tell the same files stands for the same map
+pub still_stands : (v now : SnapshotView) (m : Rows) → ((pieces : List Piece) → ArePieces v.schema v.parts pieces → ArePieces now.schema now.parts pieces) → now.schema ≡ v.schema
+    → IsSnapshotOf v m → IsSnapshotOf now m
+still_stands v now m still schema stands = record {
+  pieces = stands.pieces;
+  told = still stands.pieces stands.told;
+  rows = subst (λ s. AreRowsOf s (listed stands.pieces) m) (sym schema) stands.rows;
 }

@@ -81,7 +81,8 @@ fn first_cursors<R: SealedReader>(
 ) -> Result<Vec<Cursor>, Memory>
     ensures are { IfOk result (λ cursors. AreCursors snapshot.now cursors.items) }
     ensures left { IfOk result (λ cursors.
-        (pieces : List Piece) → ArePieces snapshot.now.schema snapshot.now.parts pieces → rows_left cursors.items pieces ≡ map scans.live_rows pieces) }
+        (pieces : List Piece) → ArePieces snapshot.now.schema snapshot.now.parts pieces
+        → rows_left cursors.items pieces ≡ map scans.live_rows pieces) }
 {
     let parts = snapshot.segments();
     let mut cursors = Vec::with_capacity(alloc, parts as usize)?;

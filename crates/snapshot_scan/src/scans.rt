@@ -52,6 +52,7 @@ impl<R: SealedReader> Snapshot<R> {
 
         // The whole scan takes at most one read for each block.
         ensures once { IfOk result (λ scan. ReadsAllOnce self.parts scan.snapshot.parts scan.cursors) }
+        ensures stands { IfOk result (λ scan. (m : Rows) → IsSnapshotOf self m → IsSnapshotOf scan.snapshot m) }
         ensures version { IfOk result (λ scan. scan.snapshot.version ≡ self.version) }
         ensures schema { IfOk result (λ scan. scan.snapshot.schema ≡ self.schema) }
         ensures failed { IfErr result (λ e. ScanFailed self.schema e.1 self.parts e.0.parts) }
@@ -86,8 +87,8 @@ fn lasting(fault: ReadFault) -> Option<ReadFault>
 }
 
 impl<R: SealedReader> Scan<R> {
-    /// The next row, or None exactly after the last. It reads the one block that the row stands in
-    /// where that isn't at hand yet, and nothing otherwise; a block without a live row isn't read.
+    /// The next row, or None exactly after the last. Where the segment that gave the last row has no
+    /// row at hand, its next block with a live row is read, by one read; otherwise nothing is read.
     ///
     /// # Errors
     /// Those of reading that block. After any of them the same row is still to come. A fault other
@@ -98,6 +99,11 @@ impl<R: SealedReader> Scan<R> {
             → Gives row rows (AreToCome self.new)) }
         ensures stays { OnErr result ((rows : List (List Value)) → AreToCome self.old rows
             → AreToCome self.new rows) }
+
+        // The same block is due after an error.
+        ensures refused { OnErr result (self.new.cursors ≡ self.old.cursors) }
+
+        // A fault is answered again, and nothing is read.
         ensures again { IfSome self.old.fault (λ fault. (result ≡ Err fault) × (self.new ≡ self.old)) }
         ensures kept { IfErr result (λ fault. IsKept fault self.new.fault) }
         ensures unfailed { IfOk result (λ row. self.new.fault ≡ None) }
@@ -122,6 +128,9 @@ impl<R: SealedReader> Scan<R> {
         // No damage is told where all files are those of segments.
         ensures intact { self.old.fault ≡ None → IfErr result (λ e. OnDamage e (λ damaged.
             (rows : List (List Value)) → AreToCome self.old rows → ⊥)) }
+
+        // The snapshot goes on to stand for what it stood for.
+        ensures stands { (m : Rows) → IsSnapshotOf self.old.snapshot m → IsSnapshotOf self.new.snapshot m }
         ensures version { self.new.snapshot.version ≡ self.old.snapshot.version }
         ensures schema { self.new.snapshot.schema ≡ self.old.snapshot.schema }
     {

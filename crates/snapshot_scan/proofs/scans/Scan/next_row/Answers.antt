@@ -1,10 +1,12 @@
 use Rattle.std.proofs.Common.{◌≡◌, ◌∙◌, ◌≤◌, ℕ, arith, slice_get, IfSome, List, None, Ok, Err, true, false, sym, subst}
 use Rattle.pk_values.specs.declared.cells.Value.{Value}
+use Rattle.pk_model.specs.Tables.{Rows}
+use Rattle.snapshot_scan.specs.Snapshots.{IsSnapshotOf}
 use Rattle.row_merge.specs.Cursors.{AllFit}
 use Rattle.snapshot_scan.specs.Scans.{AreToCome, Gives, HasLive, IsDue, IsPlayed, NoneDue, reads_in_all, ReadsDue, ScanView}
 use Rattle.snapshot_scan.proofs.CountingFacts.{taken_once}
 use Rattle.snapshot_scan.proofs.LeftFacts.{all_fit}
-use Rattle.snapshot_scan.proofs.NextFacts.{due_last, next_gives}
+use Rattle.snapshot_scan.proofs.NextFacts.{due_last, next_gives, still_stands}
 use Rattle.snapshot_scan.proofs.StepFacts.{live_at, none_due, still_played, taken_cursors, taken_settled}
 use Rattle.snapshot_scan.proofs.scans.Scan.next_row.Goals as goal
 
@@ -79,3 +81,13 @@ pub returns-in-Some-clause-live : goal.returns-in-Some-clause-live
 returns-in-Some-clause-live g c =
     subst (λ (v : ScanView). (i b : ℕ) → IsDue v.cursors i b → IfSome (slice_get v.snapshot.parts i) (λ part. HasLive part.footer.rows part.dead b)) c.self.view_is
     (λ i b. live_at c.self.inside.snapshot c.self.inside.cursors.items i b c.self.invariant.are)
+
+pub returns-in-Ok-clause-stands : goal.returns-in-Ok-clause-stands
+returns-in-Ok-clause-stands g c =
+    subst (λ (v : ScanView). (m : Rows) → IsSnapshotOf v.snapshot m → IsSnapshotOf c.refill.new.snapshot m) c.self.view_is
+    (λ m. still_stands c.self.inside.snapshot c.refill.new.snapshot m (λ pieces told. (c.in-Ok.ensures.left pieces told).0) c.in-Ok.ensures.schema)
+
+pub returns-in-Err-clause-stands : goal.returns-in-Err-clause-stands
+returns-in-Err-clause-stands g c =
+    subst (λ (v : ScanView). (m : Rows) → IsSnapshotOf v.snapshot m → IsSnapshotOf c.refill.new.snapshot m) c.self.view_is
+    (λ m. still_stands c.self.inside.snapshot c.refill.new.snapshot m (λ pieces told. (c.in-Err.ensures.left pieces told).0) c.in-Err.ensures.schema)
