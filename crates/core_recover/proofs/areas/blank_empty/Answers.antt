@@ -6,8 +6,8 @@ use Rattle.core_recover.proofs.areas.blank_empty.Goals as goal
 pub returns-in_err-length-clause-crash : goal.returns-in_err-length-clause-crash
 returns-in_err-length-clause-crash g c = calm_blanked c.args.area _ _ c.length.ensures.calm
 
-pub returns-then-length-eq0-clause-crash : goal.returns-then-length-eq0-clause-crash
-returns-then-length-eq0-clause-crash g c = then_blanked c.args.area _ _ _ c.length.ensures.calm c.blank.ensures.crash
+pub returns-then-branch-eq0-clause-crash : goal.returns-then-branch-eq0-clause-crash
+returns-then-branch-eq0-clause-crash g c = then_blanked c.args.area _ _ _ c.length.ensures.calm c.blank.ensures.crash
 
 pub returns-clause-crash : goal.returns-clause-crash
 returns-clause-crash g c = calm_blanked c.args.area _ _ c.length.ensures.calm
