@@ -63,10 +63,10 @@ returns-clause-listed g c file told =
       have = has.2;
       counted = omega (arith, ap (λ (xs : Pairs). length xs) has.3, c.len.ensures, c.in-Ok.all.ok.0, c.if-len-file.false);
       level_is =
-        level_of c.sort_unstable_by.new.self.items c.in-Ok.all.items
-        (sorted_entries c.in-Ok.all.items c.sort_unstable_by.new.self.items c.in-Ok.ensures.distinct c.sort_unstable_by.ensures.permutation
-        (c.sort_unstable_by.ensures.sorted _ (ranks_by nat_list_cmp_total key_of) (answers_always _ _ _ (λ f a r f' k. search rules))))
-        ∙ ap (λ (xs : Pairs). from_entries xs) has.3;
+          level_of c.sort_unstable_by.new.self.items c.in-Ok.all.items
+          (sorted_entries c.in-Ok.all.items c.sort_unstable_by.new.self.items c.in-Ok.ensures.distinct c.sort_unstable_by.ensures.permutation
+          (c.sort_unstable_by.ensures.sorted _ (ranks_by nat_list_cmp_total key_of) (answers_always _ _ _ (λ f a r f' k. search rules))))
+          ∙ ap (λ (xs : Pairs). from_entries xs) has.3;
     }
 
 pub returns-clause-rise : goal.returns-clause-rise

@@ -51,12 +51,11 @@ loop-b-preserved g c =
       read = looked_on b (g.R.SealedReader.view c.args.reader.now) (g.R.SealedReader.view c.loop-b.reader) (g.R.SealedReader.view c.read_entries_of.new.reader) inv.read c.in-Ok.ensures.reading;
       gathered = gathered_more (length f.buckets) b base all es new inv.gathered c.in-Ok.ensures.rise c.in-Ok.ensures.belong put;
       listed = λ file told.
-          let before = inv.listed file told in
-          (
+          let before = inv.listed file told in (
             before.0 ++ es ∷ [],
             one_more before.0 es b before.1,
             entries_on base f file 0 before.0 es before.2
-            (subst (λ (k : ℕ). OfBucket f k (λ m. IsTheBucket (length f.buckets) k base (bucket_in file m) es)) (omega (arith, before.1)) (c.in-Ok.ensures.entries file (inv.read.same.bytes ∙ told))),
+                (subst (λ (k : ℕ). OfBucket f k (λ m. IsTheBucket (length f.buckets) k base (bucket_in file m) es)) (omega (arith, before.1)) (c.in-Ok.ensures.entries file (inv.read.same.bytes ∙ told))),
             based_on base before.0 es all new before.3 put,
           );
       level = λ file told level h. joined_on base f file level h b mark.0 all es new mark.1 (c.in-Ok.ensures.entries file (inv.read.same.bytes ∙ told) mark.0 mark.1) (inv.level file told level h) put;

@@ -42,15 +42,14 @@ loop-i-preserved g c =
           (c.deref.ensures.value ∙ c.loop-i.invariant.so_far ls have) (λ level is. c.deref-in-loop-i.ensures.value ∙ c.in-Ok.ensures.entries level is) c.in-Ok-merge.ensures;
       rest = rest_on c.args.files.now c.loop-i.files c.loop-i.i c.entries-in-loop-i.new.self c.loop-i.invariant.rest;
       listed =
-        let before = c.loop-i.invariant.listed in
-        let older = c.in-Ok.older.items in
-        (
-          before.0 ++ from_sorted older ∷ [],
-          levels_on g.F.FileLevel.reads_as c.args.files.now c.loop-i.files c.loop-i.i c.index-files-i.result before.0 (from_sorted older) less (omega (arith, c.requires, c.loop-i-test.true))
-          c.loop-i.invariant.rest before.1 c.in-Ok.ensures.listed,
-          merges_more c.args.level0.now.level before.0 c.deref.result.now older c.in-Ok-merge.both.items c.in-Ok.ensures.rise (c.deref.ensures.value ∙ before.2)
-          (c.in-Ok-merge.ensures ∙ ap (λ (es : Pairs). entries (over c.deref.result.now (from_sorted es))) c.deref-in-loop-i.ensures.value),
-        );
+          let before = c.loop-i.invariant.listed in
+          let older = c.in-Ok.older.items in (
+            before.0 ++ from_sorted older ∷ [],
+            levels_on g.F.FileLevel.reads_as c.args.files.now c.loop-i.files c.loop-i.i c.index-files-i.result before.0 (from_sorted older) less (omega (arith, c.requires, c.loop-i-test.true))
+                c.loop-i.invariant.rest before.1 c.in-Ok.ensures.listed,
+            merges_more c.args.level0.now.level before.0 c.deref.result.now older c.in-Ok-merge.both.items c.in-Ok.ensures.rise (c.deref.ensures.value ∙ before.2)
+                (c.in-Ok-merge.ensures ∙ ap (λ (es : Pairs). entries (over c.deref.result.now (from_sorted es))) c.deref-in-loop-i.ensures.value),
+          );
       older = drop-set-lt c.args.count c.loop-i.files c.loop-i.i c.entries-in-loop-i.new.self (omega arith) ∙ c.loop-i.invariant.older;
       named = told_same g.F.FileLevel.named c.args.files.now c.loop-i.files c.loop-i.i c.index-files-i.result c.entries-in-loop-i.new.self c.entries-in-loop-i.ensures.named c.loop-i.invariant.named;
       calm = told_same g.F.FileLevel.faults c.args.files.now c.loop-i.files c.loop-i.i c.index-files-i.result c.entries-in-loop-i.new.self (c.in-Ok.ensures.cause.well (λ e. cc)) c.loop-i.invariant.calm;

@@ -51,8 +51,8 @@ loop-i-preserved g c =
       calm = told_same g.F.FileLevel.faults c.args.files.now c.loop-i.files c.loop-i.i c.index-files-i.result c.probe.new.self (c.in-Ok.ensures.cause.well (λ e. cc)) c.loop-i.invariant.calm;
       rest = rest_on c.args.files.now c.loop-i.files c.loop-i.i c.probe.new.self c.loop-i.invariant.rest;
       told =
-        missed_first (λ f. g.F.FileLevel.has_entry f c.args.key.now) c.args.files.now c.loop-i.files c.loop-i.i c.index-files-i.result c.in-Ok.found less
-        c.loop-i.invariant.rest c.loop-i.invariant.told c.in-Ok.ensures.told (sym c.if-is_some.ensures);
+          missed_first (λ f. g.F.FileLevel.has_entry f c.args.key.now) c.args.files.now c.loop-i.files c.loop-i.i c.index-files-i.result c.in-Ok.found less
+          c.loop-i.invariant.rest c.loop-i.invariant.told c.in-Ok.ensures.told (sym c.if-is_some.ensures);
       none = λ ls have.
           missed_there g.F.FileLevel.has_level c.loop-i.files c.loop-i.i c.index-files-i.result c.args.key.now c.in-Ok.found less ls
           (c.loop-i.invariant.same ls have) (c.loop-i.invariant.none ls have) c.in-Ok.ensures.entry (sym c.if-is_some.ensures);

@@ -48,13 +48,12 @@ returns-then-keep-eq0-clause-listed g c =
     let told = c.in_ok-all.ensures.listed in
     let count = c.mark-count.ensures.count in
     let n = c.mark-count.result - c.if-count-most.kept in
-    let lent = subst (λ fs. HaveLevels g.F.FileLevel.reads_as (take n fs) told.0) (c.deref_mut.ensures.value ∙ (λ i. (c.self.view_is i).files)) told.1 in
-    (
+    let lent = subst (λ fs. HaveLevels g.F.FileLevel.reads_as (take n fs) told.0) (c.deref_mut.ensures.value ∙ (λ i. (c.self.view_is i).files)) told.1 in (
       told.0,
       subst (λ (m : ℕ). HaveLevels g.F.FileLevel.reads_as (take (m - c.if-count-most.kept) c.args.self.now.files) told.0) count lent,
       places_for (length c.args.self.now.files) c.args.keep c.args.most (c.args.self.now.level0.level ∷ told.0) c.in_ok-all.all.items c.places.result.items
-      (omega (arith, count)) (omega arith)
-      (told.2 ∙ ap (λ (l : LevelWithRoom). entries (merged (l.level ∷ told.0))) (λ i. (c.self.view_is i).level0)) c.places.ensures.places,
+          (omega (arith, count)) (omega arith)
+          (told.2 ∙ ap (λ (l : LevelWithRoom). entries (merged (l.level ∷ told.0))) (λ i. (c.self.view_is i).level0)) c.places.ensures.places,
     )
 
 pub returns-clause-listed : goal.returns-clause-listed
@@ -67,10 +66,9 @@ returns-clause-listed g c =
     elim c.else-count-most-2.branch [
       | else-count-most-2-via-then-count-most-2+else-keep-eq0 w ↦ if_some (length c.args.self.now.files) c.args.most c.args.keep w.if-keep-eq0.false
       | else-count-most-2-via-else-count-most-2 w ↦ if_fewer (length c.args.self.now.files) c.args.most c.args.keep (omega (arith, count))
-    ] in
-    (
+    ] in (
       told.0,
       subst (λ (m : ℕ). HaveLevels g.F.FileLevel.reads_as (take (m - c.if-count-most.kept) c.args.self.now.files) told.0) count lent,
       all_for (length c.args.self.now.files) c.args.keep c.args.most (c.args.self.now.level0.level ∷ told.0) c.in_ok-all.all.items some
-      (told.2 ∙ ap (λ (l : LevelWithRoom). entries (merged (l.level ∷ told.0))) (λ i. (c.self.view_is i).level0)),
+          (told.2 ∙ ap (λ (l : LevelWithRoom). entries (merged (l.level ∷ told.0))) (λ i. (c.self.view_is i).level0)),
     )
