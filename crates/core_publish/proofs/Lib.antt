@@ -5,3 +5,4 @@ pub mod LeaveFacts
 pub mod PlaceFacts
 pub mod PublicationFacts
 pub mod SettleFacts
+pub mod EntryFacts

@@ -59,7 +59,7 @@ in-file s n j (row ∷ file) h =
     (λ i. record { key = key_of s row; place = sym (same-place n j (omega arith)) i } ∷ rest i)
 
 -- the moved rows of files with numbers from n on
-abbrev moved_over : Layout → ℕ → List (List (List Value)) → List Moved
+abbrev pub moved_over : Layout → ℕ → List (List (List Value)) → List Moved
 moved_over s n [] = []
 moved_over s n (file ∷ files) = moved_in s n 0 file ++ moved_over s (n + 1) files
 
@@ -82,7 +82,7 @@ over-files s (suc m) n rows h =
         ap (λ k. moved_from s k (drop 65536 rows)) full
 
 -- rows read under their numbers
-abbrev Agree : Files → ℕ → List (List (List Value)) → Type 0
+abbrev pub Agree : Files → ℕ → List (List (List Value)) → Type 0
 Agree rows n [] = ⊤
 Agree rows n (file ∷ files) = (rows n ≡ file) × Agree rows (n + 1) files
 
@@ -90,7 +90,7 @@ agree-below : (rows others : Files) (k n : ℕ) (files : List (List (List Value)
 agree-below rows others k n [] lt same h = tt
 agree-below rows others k n (file ∷ files) lt same h = (same n lt ∙ h.0, agree-below rows others k (n + 1) files (omega arith) same h.1)
 
-agree-fresh : (n : ℕ) (files : List (List (List Value))) (rest : Files) → Agree (with_files n files rest) n files
+pub agree-fresh : (n : ℕ) (files : List (List (List Value))) (rest : Files) → Agree (with_files n files rest) n files
 agree-fresh n [] rest = tt
 agree-fresh n (file ∷ files) rest = (
   ap (λ b. cond b file (with_files (n + 1) files rest n)) (eq-eqb n n refl),
@@ -99,7 +99,7 @@ agree-fresh n (file ∷ files) rest = (
       (agree-fresh (n + 1) files rest),
 )
 
-moved-fresh : (s : Layout) (rows : Files) (n : ℕ) (files : List (List (List Value))) → Agree rows n files → moved_to s rows (numbered n files) ≡ moved_over s n files
+pub moved-fresh : (s : Layout) (rows : Files) (n : ℕ) (files : List (List (List Value))) → Agree rows n files → moved_to s rows (numbered n files) ≡ moved_over s n files
 moved-fresh s rows n [] h = refl
 moved-fresh s rows n (file ∷ files) h = (λ i. moved_in s n 0 (h.0 i) ++ moved-fresh s rows (n + 1) files h.1 i)
 

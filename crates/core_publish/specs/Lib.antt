@@ -2,4 +2,5 @@ pub mod Lines
 pub mod Results
 pub mod Leaving
 pub mod Prepared
+pub mod Publication
 pub mod Writing

@@ -2,8 +2,10 @@
 #![tactic(auto)]
 
 mod files;
+mod laws;
 mod lines;
 mod prepared;
 mod results;
 
+pub use laws::prepared_loads;
 pub use prepared::{Prepared, prepare};

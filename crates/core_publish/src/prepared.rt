@@ -20,8 +20,9 @@ use std::alloc::{AllocError, Global};
 use std::marker::Model;
 use std::snapshot::Snapshot;
 
-/// A load of all columns that is ready to be published: its rows stand in sealed files, and of each key that it touches the code
-/// is at hand, and where its new row stands. Contracts also see the load itself, which takes no memory here.
+/// A load of all columns that is ready to be published: its rows stand in sealed files, and of each key that it
+/// touches the code is at hand, and where its new row stands. Contracts also see the load itself, which takes no
+/// memory here.
 #[derive(Drop)]
 pub struct Prepared<M: FileMaker> {
     schema: Snapshot<Schema>,
@@ -76,11 +77,13 @@ fn settled(alloc: Global, schema: &Schema, load: Load) -> Result<Results, AllocE
     Ok(results)
 }
 
-/// Prepares a load of all columns, for any table of this schema. It sorts the lines once by the codes of their keys, keeps one result a key,
-/// as its last line leaves it, and writes the rows into files of 65,536 rows.
+/// Prepares a load of all columns, for any table of this schema. It sorts the lines once by the codes of their keys,
+/// keeps one result a key, as its last line leaves it, and writes the rows into files of 65,536 rows. No cell is
+/// copied.
 ///
 /// # Errors
-/// `StoreFault` exactly where the maker failed, which it counted once. `Memory` where this call or the maker wants memory.
+/// `StoreFault` exactly where the maker failed, which it counted once. `Memory` where this call or the maker wants
+/// memory; nothing is counted then.
 pub fn prepare<M: FileMaker>(
     alloc: Global,
     maker: &mut M,

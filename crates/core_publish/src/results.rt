@@ -62,7 +62,8 @@ impl Results {
         ensures rows { OnOk result (self.new.rows.items
             ≡ self.old.rows.items ++ rows_left ((key_named line.op, row_left line.op) ∷ [])) }
         ensures entries { OnOk result ((s : Layout) → IsCoded s line → self.new.entries.items
-            ≡ self.old.entries.items ++ placed s (length self.old.rows.items) ((key_named line.op, row_left line.op) ∷ [])) }
+            ≡ self.old.entries.items
+            ++ placed s (length self.old.rows.items) ((key_named line.op, row_left line.op) ∷ [])) }
     {
         let Line { code, op } = line;
         let place = match op {
