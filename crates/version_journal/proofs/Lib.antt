@@ -1,3 +1,5 @@
 pub mod Logs
 pub mod Meanings
 pub mod Saying
+pub mod BodyFacts
+pub mod ReadImages

@@ -31,10 +31,10 @@ opens-epoch edit (listed l) s h =
     ap (λ (x : Standing). Some x.epoch) m.2
 
 pub record Headed (bodies : List (List ℕ)) (s : Standing) : Type 0 where
-  body : List ℕ
-  later : List (List ℕ)
-  split : bodies ≡ body ∷ later
-  begins : Begins s.epoch body
+  pub body : List ℕ
+  pub later : List (List ℕ)
+  pub split : bodies ≡ body ∷ later
+  pub begins : Begins s.epoch body
 
 pub headed : (bodies : List (List ℕ)) (s : Standing) → Means bodies s → Headed bodies s
 headed bodies s m =

@@ -1,5 +1,5 @@
 -- What is read of a journal.
-use Rattle.std.specs.Prelude.{◌≡◌, ◌≢◌, ◌⊎◌, ℕ, ◌+◌, List, [], ◌∷◌, suc, zero, Bool as Truth, true, false, Option, Some, IsTrue}
+use Rattle.std.specs.Prelude.{◌≡◌, ◌≢◌, ◌⊎◌, ℕ, ◌+◌, ◌++◌, List, [], ◌∷◌, suc, zero, Bool as Truth, true, false, Option, Some, IsTrue}
 use Rattle.std.specs.List.{AllByRecursion}
 use Rattle.dev_traits.specs.Image.{Image, area_of}
 use Rattle.dev_traits.specs.declared.faults.Damaged.{Damaged}
@@ -12,6 +12,8 @@ use Rattle.pk_values.specs.Schemas.{Layout}
 use Rattle.journal_form.specs.Meaning.{Standing, created, opens}
 use Rattle.journal_form.specs.Standings.{is_built, records_mean}
 use Rattle.journal_bytes.specs.ReadRecords.{IsBodyOf}
+use Rattle.journal_replay.specs.declared.replay.Replay.{Replay}
+use Rattle.journal_replay.specs.Follow.{Follows}
 use Rattle.journal_bytes.specs.Bodies.{Means}
 use Rattle.version_journal.specs.Images.{IsBuilt, Says}
 
@@ -65,3 +67,11 @@ pub record HasBegun (body : List ℕ) (told : Record) (s : Standing) : Type 0 wh
   pub schema : Layout
   pub opened : opens 0 (created 1 schema) ≡ Some s
   pub done : IsReplayed (body ∷ []) (told ∷ []) 1 s
+
+-- the bodies up to a place were read
+pub record SoFar (bodies left : List (List ℕ)) (records : List Record) (replay : Replay) : Type 0 where
+  pub pre : List (List ℕ)
+  pub split : bodies ≡ pre ++ left
+  pub s : Standing
+  pub follows : Follows replay s
+  pub done : IsReplayed pre records (s.edit + 1) s

@@ -1,5 +1,6 @@
 //! What holds of images. Each function states laws and does nothing when it is called.
 
+ghost use Rattle.version_journal.specs.Reading.{DamagedSaysNothing, SaysOne};
 ghost use Rattle.version_journal.specs.Laws.{AppendIsAStep, AreaIsTold, BlankingKeeps, CheckpointKeeps, EpochIsTold, ImageMeansOne, LogsTellMeaning, OneLog};
 
 /// Which area is in force.
@@ -20,4 +21,10 @@ pub fn moments()
     ensures append { AppendIsAStep }
     ensures blank { BlankingKeeps }
     ensures checkpoint { CheckpointKeeps }
+{}
+
+/// What a damaged image says, and that an image says one thing.
+pub fn damages()
+    ensures one { SaysOne }
+    ensures nothing { DamagedSaysNothing }
 {}

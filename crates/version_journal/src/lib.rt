@@ -3,9 +3,14 @@
 #![tactic(auto)]
 
 mod commits;
+mod fault;
 mod journals;
 mod laws;
+mod reading;
+mod replaying;
 
 pub use commits::{commit, draft};
+pub use fault::JournalFault;
 pub use journals::{Draft, Journal};
-pub use laws::{areas, images, moments};
+pub use laws::{areas, damages, images, moments};
+pub use reading::{ReadJournal, read_records};
