@@ -51,12 +51,16 @@ HasItsRows b o = ⊤
 abbrev pub TellsTheRows : (ℕ → Book) → List Turn → Outcome → Type 0
 TellsTheRows books ts o = AllByRecursion (λ (t : Turn). HasItsRows (books t.place) o) ts
 
--- a history of turns over a book, and what became of each job by it: turns that fit the script, whose calls and replies are legal
--- from the book on, and the rows of each scan
-pub record HasRun (s : Layout) (book : Book) (jobs : List FiledJob) (turns : List Turn) (entries : List Entry) (outcomes : List Outcome) : Type 0 where
+-- a history of turns, and what became of each job by it, whatever book it is of: turns at their places that fit the script, and the
+-- entries of their calls and replies
+pub record GoesBy (s : Layout) (jobs : List FiledJob) (turns : List Turn) (entries : List Entry) (outcomes : List Outcome) : Type 0 where
   pub placed : ArePlaced 1 turns
   pub fits : FitsScript s jobs turns outcomes
   pub made : AreEntries s jobs turns turns entries
+
+-- the same over a book: the calls and replies are legal from it on, and the rows of each scan are its rows
+pub record HasRun (s : Layout) (book : Book) (jobs : List FiledJob) (turns : List Turn) (entries : List Entry) (outcomes : List Outcome) : Type 0 where
+  pub goes : GoesBy s jobs turns entries outcomes
   pub legal : IsLegal s book 1 entries
   pub rows : EachJob (λ n j o. TellsTheRows (book_at s book entries) (turns_of n turns) o) 1 jobs outcomes
 

@@ -1,17 +1,24 @@
 //! What holds of every report: functions that do nothing, each of which a clause gives its law.
+ghost use Rattle.reports.specs.Bearing.{FaultsAreCounted, IntactEndsWell};
 ghost use Rattle.reports.specs.Closings.{ClosedAtFault, FaultCloses};
 ghost use Rattle.reports.specs.Endings.{EndingHasStatus, EndingIsTold, NoneIsWorse};
 ghost use Rattle.reports.specs.Gathers.{AllPlacesSort, LaneComesInOrder, NumberedAreNotes};
 ghost use Rattle.reports.specs.Lanes.{LanesMakeReport};
 ghost use Rattle.reports.specs.Laws.{CallsAreOfTasks, OrderDetermines, ScriptDetermines};
 ghost use Rattle.reports.specs.Reports.{ReportsFollow};
-ghost use Rattle.reports.specs.Notes.{NotesMakeRun, NotesStay, TurnsStay};
+ghost use Rattle.reports.specs.Notes.{NotesFollow, NotesMakeRun, NotesStay, TurnsStay};
 
 /// How the ending of a run stands to its outcomes.
 pub fn ends()
     ensures status { EndingHasStatus }
     ensures worst { NoneIsWorse }
     ensures told { EndingIsTold }
+{}
+
+/// What bears out the faults that outcomes tell.
+pub fn bearing()
+    ensures counted { FaultsAreCounted }
+    ensures intact { IntactEndsWell }
 {}
 
 /// What each part of a job makes its call for.
@@ -34,6 +41,7 @@ pub fn determinism()
 pub fn notes()
     ensures turns { TurnsStay }
     ensures stay { NotesStay }
+    ensures follow { NotesFollow }
     ensures run { NotesMakeRun }
 {}
 
