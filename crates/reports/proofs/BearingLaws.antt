@@ -115,27 +115,27 @@ told-four (o ∷ os) e = by (outcome_status o == 4) refl e (told-four os)
 
 pub intact-ends-well : IntactEndsWell
 intact-ends-well [] h e = cc
-intact-ends-well (o ∷ os) h e = by (outcome_status o == 5) refl e
+intact-ends-well (o ∷ os) h e = by (outcome_status o == 5) refl e (intact-ends-well os h.1)
   where
-    by : (b : Truth) → (outcome_status o == 5) ≡ b → (b || gives 5 os) ≡ true → ⊥
-    by true f g = five o f h.0
-    by false f g = intact-ends-well os h.1 g
+    by : (b : Truth) → (outcome_status o == 5) ≡ b → (b || gives 5 os) ≡ true → (gives 5 os ≡ true → ⊥) → ⊥
+    by true f g rest = five o f h.0
+    by false f g rest = rest g
 
 gives-push : (n : ℕ) (os : List Outcome) (o : Outcome) → gives n os ≡ true → gives n (os ++ o ∷ []) ≡ true
 gives-push n [] o e = cc
-gives-push n (p ∷ os) o e = by (outcome_status p == n) e
+gives-push n (p ∷ os) o e = by (outcome_status p == n) e (gives-push n os o)
   where
-    by : (b : Truth) → (b || gives n os) ≡ true → (b || gives n (os ++ o ∷ [])) ≡ true
-    by true e = refl
-    by false e = gives-push n os o e
+    by : (b : Truth) → (b || gives n os) ≡ true → (gives n os ≡ true → gives n (os ++ o ∷ []) ≡ true) → (b || gives n (os ++ o ∷ [])) ≡ true
+    by true e rest = refl
+    by false e rest = rest e
 
 gives-last : (n : ℕ) (os : List Outcome) (o : Outcome) → (outcome_status o == n) ≡ true → gives n (os ++ o ∷ []) ≡ true
 gives-last n [] o e = ap (λ b. b || false) e
-gives-last n (p ∷ os) o e = by (outcome_status p == n)
+gives-last n (p ∷ os) o e = by (outcome_status p == n) (gives-last n os o e)
   where
-    by : (b : Truth) → (b || gives n (os ++ o ∷ [])) ≡ true
-    by true = refl
-    by false = gives-last n os o e
+    by : (b : Truth) → gives n (os ++ o ∷ []) ≡ true → (b || gives n (os ++ o ∷ [])) ≡ true
+    by true rest = refl
+    by false rest = rest
 
 all-push : (P : Outcome → Type 0) (os : List Outcome) (o : Outcome) → AllByRecursion P os → P o → AllByRecursion P (os ++ o ∷ [])
 all-push P [] o h k = (k, tt)
@@ -143,7 +143,10 @@ all-push P (p ∷ os) o h k = (h.0, all-push P os o h.1 k)
 
 -- ---- the status 4 is borne out
 
-status-four : (a b c d : Truth) → cond a 5 (cond b 4 (cond c 7 (cond d 1 0))) ≡ 4 → (a ≡ false) × (b ≡ true)
+abbrev first_of_these : Truth → Truth → Truth → Truth → ℕ
+first_of_these a b c d = cond a 5 (cond b 4 (cond c 7 (cond d 1 0)))
+
+status-four : (a b c d : Truth) → first_of_these a b c d ≡ 4 → (a ≡ false) × (b ≡ true)
 status-four true b c d e = absurd (omega (arith, e))
 status-four false true c d e = (refl, refl)
 status-four false false true d e = absurd (omega (arith, e))

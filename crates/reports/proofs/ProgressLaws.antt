@@ -152,7 +152,7 @@ module _ (s : Layout) (Opens : Book → Type 0) (Old : Over) (closed : Option �
       (subst (ShutsBy None 1 (h.seen ++ e ∷ [])) (ap (λ n. shut_after closed n r) here ∙ sym shut) (shuts-append None 1 h.seen closed e h.shuts tells))
       (λ b old. let turn = over b h.seen (sym same) old in (
         (turn.may, tt),
-        (subst (λ d. HasItsRows d o) (sym (left b) ∙ refl) (subst (λ n. HasItsRows (next s (replay s b 1 h.seen) n c r) o) (sym next_place) turn.rows), tt),
+        (subst (λ d. HasItsRows d o) (sym (left b)) (subst (λ n. HasItsRows (next s (replay s b 1 h.seen) n c r) o) (sym next_place) turn.rows), tt),
         turn.intact,
         turn.now,
       ))
@@ -162,6 +162,10 @@ module _ (s : Layout) (Opens : Book → Type 0) (Old : Over) (closed : Option �
       left b =
           let count = length-append h.seen ((c, r) ∷ []) in
           ap (replay s b 1) (take_all (suc (length h.seen)) (h.seen ++ (c, r) ∷ []) (omega (arith, count))) ∙ replay-append s b 1 h.seen ((c, r) ∷ [])
+          ∙ ap (λ n. next s (replay s b 1 h.seen) n c r) plus
+        where
+          plus : 1 + length h.seen ≡ suc (length h.seen)
+          plus = omega arith
 
 -- no job was done
 pub come-none : (s : Layout) (Opens : Book → Type 0) (Now : Over) → ((b : Book) → Opens b → Now b []) → HasCome s Opens Now None [] [] []

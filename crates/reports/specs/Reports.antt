@@ -82,3 +82,13 @@ pub record FollowsScript (s : Layout) (jobs : List FiledJob) (order : List Item)
 abbrev pub ReportsFollow : Type 0
 ReportsFollow = (s : Layout) (book : Book) (jobs : List FiledJob) (order : List Item) (outcomes : List Outcome)
     → Reports s book jobs order outcomes → FollowsScript s jobs order outcomes
+
+-- so do those that go by their script, over every tablet
+abbrev pub GoesFollow : Type 0
+GoesFollow = (s : Layout) (jobs : List FiledJob) (turns : List Turn) (entries : List Entry) (order : List Item) (outcomes : List Outcome)
+    → order ≡ map item_of turns → GoesBy s jobs turns entries outcomes → FollowsScript s jobs order outcomes
+
+-- and over a book they are a report of it
+abbrev pub RunsReport : Type 0
+RunsReport = (s : Layout) (book : Book) (jobs : List FiledJob) (turns : List Turn) (entries : List Entry) (order : List Item) (outcomes : List Outcome)
+    → order ≡ map item_of turns → HasRun s book jobs turns entries outcomes → Reports s book jobs order outcomes

