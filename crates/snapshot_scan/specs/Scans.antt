@@ -16,7 +16,7 @@ use Rattle.row_merge.specs.declared.brackets.Bracket.{Bracket}
 use Rattle.row_merge.specs.Cursors.{CursorView, Fit, front_at}
 use Rattle.row_merge.specs.Merge.{merge_all}
 use Rattle.snapshot_scan.specs.Parts.{PartView, IsPieceOf, live_from, read_by, ToldOfNoPiece}
-use Rattle.snapshot_scan.specs.Snapshots.{ArePieces, read_count, ReadsPart, SnapshotView}
+use Rattle.snapshot_scan.specs.Snapshots.{ArePieces, fault_count, read_count, ReadsPart, SnapshotView}
 
 -- the snapshot, where the scan stands in each of its parts, and the fault that ended it
 pub record ScanView : Type 0 where
@@ -59,6 +59,10 @@ abbrev pub IsKept : ReadFault → Option ReadFault → Type 0
 IsKept read.StoreFault kept = kept ≡ Some read.StoreFault
 IsKept (read.Damaged damaged) kept = kept ≡ Some (read.Damaged damaged)
 IsKept read.Memory kept = kept ≡ None
+
+-- where a reader's failure is told, it was counted
+abbrev pub IsCounted : List PartView → ReadFault → Type 0
+IsCounted parts fault = fault ≡ read.StoreFault → 1 ≤ fault_count parts
 
 -- a row of block b is live, in a file with so many rows
 pub record HasLive (rows : ℕ) (dead : List ℕ) (b : ℕ) : Type 0 where
@@ -121,6 +125,7 @@ pub record IsScanning (v : SnapshotView) (cursors : List CursorView) (bracket : 
   pub played : IfSome bracket (IsPlayed v.schema cursors last)
   pub empty : IfNone bracket (cursors ≡ [])
   pub lasts : IfSome fault (λ e. IsKept e fault)
+  pub counted : IfSome fault (IsCounted v.parts)
 
 -- each part with its reader as it is after calls that did so much
 pub record ReadsEach (old new : List PartView) (Did : ReaderView → ReaderView → Type 0) : Type 0 where
