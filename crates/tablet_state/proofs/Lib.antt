@@ -18,3 +18,5 @@ pub mod ReadyFacts
 pub mod Refusing
 pub mod Opening
 pub mod RowFacts
+pub mod Lending
+pub mod KeptFacts
