@@ -20,7 +20,7 @@ use Rattle.rowsets.specs.Indexing.{CodeMove, places_of}
 use Rattle.rowsets.proofs.LiveFacts.{live-named, same_place-exact, same_place-same, unnamed}
 use Rattle.journal_form.specs.declared.records.NewFile.{NewFile}
 use Rattle.journal_form.specs.declared.records.ListedFile.{ListedFile}
-use Rattle.journal_form.specs.Versions.{Rowset as ListedRowset, file_numbered, files_of, numbers_of, published_rowsets, whole_file}
+use Rattle.journal_form.specs.Versions.{Rowset as ListedRowset, file_numbered, files_of, published_rowsets, whole_file}
 use Rattle.kept_versions.specs.Files.{can_die, row_lives}
 use Rattle.kept_versions.proofs.ChangeFacts.{published_files}
 use Rattle.tablet_state.specs.Stands.{part_of, told_file}
