@@ -20,3 +20,4 @@ pub mod Opening
 pub mod RowFacts
 pub mod Lending
 pub mod KeptFacts
+pub mod Living
