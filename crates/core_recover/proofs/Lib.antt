@@ -1,0 +1,5 @@
+pub mod AreaFacts
+pub mod ReplayFacts
+pub mod NamingFacts
+pub mod IndexingFacts
+pub mod FindingFacts

@@ -1,0 +1,4 @@
+pub mod Areas
+pub mod Replaying
+pub mod Naming
+pub mod Indexing
