@@ -127,8 +127,8 @@ module _ {R : Type 0} (view : R → ReaderView) where
       (omega arith, omega arith)
   faults_at (x ∷ segs) (suc i) g h is none = let more = faults_at segs i g h is (omega arith) in let a = more.0 in let b = more.1 in (a, omega arith)
 
-  pub set_cause : {T U : Type 0} (segs : List (Segment R)) (i : ℕ) (g h : Segment R) (r : Result T ReadFault) → slice_get segs i ≡ Some g → HasReadCause (view g.reader).faults (view h.reader).faults r → HasReaderCause (seen segs) (seen (set segs i h)) r
-  set_cause {T} {U} segs i g h r is cause none =
+  pub set_cause : {T : Type 0} (segs : List (Segment R)) (i : ℕ) (g h : Segment R) (r : Result T ReadFault) → slice_get segs i ≡ Some g → HasReadCause (view g.reader).faults (view h.reader).faults r → HasReaderCause (seen segs) (seen (set segs i h)) r
+  set_cause segs i g h r is cause none =
       let f = faults_at segs i g h is none in
       record {
         well = λ not. f.1 ∙ cause.well not ∙ f.0;
@@ -171,8 +171,8 @@ missing s segs f none stored reads short = apart (nowhere segs f.file none) read
 
     nowhere : (gs : List SegmentView) (n : ℕ) → list_any (λ m. m == n) (numbers_in gs) ≡ false → segment_of gs n ≡ None
     nowhere [] n h = refl
-    nowhere (g ∷ gs) n h = go (g.number == n) h
+    nowhere (g ∷ gs) n h = go (g.number == n) h (nowhere gs n)
       where
-        go : (b : Bool) → (b || list_any (λ m. m == n) (numbers_in gs)) ≡ false → (if b then Some g else segment_of gs n) ≡ None
-        go true k = absurd (cc k)
-        go false k = nowhere gs n k
+        go : (b : Bool) → (b || list_any (λ m. m == n) (numbers_in gs)) ≡ false → (list_any (λ m. m == n) (numbers_in gs) ≡ false → segment_of gs n ≡ None) → (if b then Some g else segment_of gs n) ≡ None
+        go true k more = absurd (cc k)
+        go false k more = more k

@@ -90,14 +90,14 @@ found_same : (old new : List SegmentView) (n : ℕ) (g : SegmentView) → OneByO
 found_same [] [] n g same is = absurd (cc is)
 found_same [] (y ∷ ys) n g same is = absurd same
 found_same (x ∷ xs) [] n g same is = absurd same
-found_same (x ∷ xs) (y ∷ ys) n g same is = go (x.number == n) refl is
+found_same (x ∷ xs) (y ∷ ys) n g same is = go (x.number == n) refl is (found_same xs ys n g same.1)
   where
     at : (y.number == n) ≡ (x.number == n)
     at = ap (λ (k : ℕ). k == n) same.0.number
 
-    go : (b : Bool) → (x.number == n) ≡ b → (if b then Some x else segment_of xs n) ≡ Some g → (h : SegmentView) × ((segment_of (y ∷ ys) n ≡ Some h) × OneFile g h)
-    go true e f = (y, (ap (λ (b : Bool). if b then Some y else segment_of ys n) (at ∙ e), subst (λ (z : SegmentView). OneFile z y) (some_one x g f) same.0))
-    go false e f = let w = found_same xs ys n g same.1 f in (w.0, (ap (λ (b : Bool). if b then Some y else segment_of ys n) (at ∙ e) ∙ w.1.0, w.1.1))
+    go : (b : Bool) → (x.number == n) ≡ b → (if b then Some x else segment_of xs n) ≡ Some g → (segment_of xs n ≡ Some g → (h : SegmentView) × ((segment_of ys n ≡ Some h) × OneFile g h)) → (h : SegmentView) × ((segment_of (y ∷ ys) n ≡ Some h) × OneFile g h)
+    go true e f more = (y, (ap (λ (b : Bool). if b then Some y else segment_of ys n) (at ∙ e), subst (λ (z : SegmentView). OneFile z y) (some_one x g f) same.0))
+    go false e f more = let w = more f in (w.0, (ap (λ (b : Bool). if b then Some y else segment_of ys n) (at ∙ e) ∙ w.1.0, w.1.1))
 
 pub read_as_same : (s : Layout) (stored : Files) (old new : List SegmentView) (f : NewFile) → OneByOne old new → IsReadAs s stored old f → IsReadAs s stored new f
 read_as_same s stored old new f same is =
@@ -186,14 +186,11 @@ if_err_damage (Err e) P Q f h = on_damage e P Q f h
 
 -- ---- faults of readers
 
+not_err : {T E : Type 0} (x : T) (e : E) → Ok x ≡ Err e → ⊥
+not_err x e is = cc
+
 pub cause_then : {T U : Type 0} (old mid new : List SegmentView) (x : T) (r : Result U ReadFault) → HasReaderCause old mid (Ok x) → HasReaderCause mid new r → HasReaderCause old new r
-cause_then {T} {U} old mid new x r first second none = second ((first none).well (λ e. apart e))
-  where
-    apart : {E : Type 0} {e : E} → Ok {T} {E} x ≡ Err e → ⊥
-    apart e = cc
+cause_then old mid new x r first second none = second ((first none).well (λ e. not_err x read.StoreFault e))
 
 pub cause_none : {T : Type 0} (segs : List SegmentView) (x : T) → HasReaderCause segs segs (Ok x)
-cause_none {T} segs x none = record { well = λ not. none; failed = λ is. absurd (apart is) }
-  where
-    apart : {E : Type 0} {e : E} → Ok {T} {E} x ≡ Err e → ⊥
-    apart e = cc
+cause_none segs x none = record { well = λ not. none; failed = λ is. absurd (not_err x read.StoreFault is) }

@@ -23,7 +23,7 @@ use Rattle.core_recover.specs.Naming.{AreNamed, Clash, Clashes, IsAmong, IsListe
 some_one : {X : Type 0} (x y : X) → Some x ≡ Some y → x ≡ y
 some_one x y e = cc
 
-eq_is : (k q : ℕ) → is_eq (nat_cmp k q) ≡ (k == q)
+pub eq_is : (k q : ℕ) → is_eq (nat_cmp k q) ≡ (k == q)
 eq_is k q = by (nat_lt k q) (k == q) (λ e. let lt = ltb-true k q e in ne_eqb k q (λ s. absurd (omega arith)))
   where
     by : (a b : Bool) → (a ≡ true → b ≡ false) → is_eq (cond a Less (cond b Equal Greater)) ≡ b
@@ -224,14 +224,14 @@ rises_of (a ∷ b ∷ entries) h = (less a.0 b.0 (sorted_head nat_cmp a.0 (keys_
 
 found_at : (entries : Entries) (n rows : ℕ) → at_key entries n ≡ Some rows → (i : ℕ) × (slice_get (map named_of entries) i ≡ Some (record { number = n; rows = rows }))
 found_at [] n rows h = absurd (cc h)
-found_at (e ∷ entries) n rows h = go (is_eq (nat_cmp n e.0)) refl h
+found_at (e ∷ entries) n rows h = go (is_eq (nat_cmp n e.0)) refl h (found_at entries n rows)
   where
-    go : (b : Bool) → is_eq (nat_cmp n e.0) ≡ b → cond b (Some e.1) (at_key entries n) ≡ Some rows → (i : ℕ) × (slice_get (map named_of (e ∷ entries)) i ≡ Some (record { number = n; rows = rows }))
-    go true is k =
+    go : (b : Bool) → is_eq (nat_cmp n e.0) ≡ b → cond b (Some e.1) (at_key entries n) ≡ Some rows → (at_key entries n ≡ Some rows → (i : ℕ) × (slice_get (map named_of entries) i ≡ Some (record { number = n; rows = rows }))) → (i : ℕ) × (slice_get (map named_of (e ∷ entries)) i ≡ Some (record { number = n; rows = rows }))
+    go true is k more =
         let key : e.0 ≡ n = sym (eqb-true n e.0 (sym (eq_is n e.0) ∙ is)) in
         let value : e.1 ≡ rows = some_one e.1 rows k in
         (zero, λ i. Some (record { number = key i; rows = value i }))
-    go false is k = let w = found_at entries n rows k in (suc w.0, w.1)
+    go false is k more = let w = more k in (suc w.0, w.1)
 
 all_found : (entries : Entries) (files : List NewFile) → AllByRecursion (λ (f : NewFile). at_key entries f.file ≡ Some f.rows) files → AllByRecursion (IsListed (map named_of entries)) files
 all_found entries [] h = tt

@@ -18,7 +18,7 @@ use Rattle.journal_form.proofs.StepFacts.{GivesCompact, GivesPublish, gives_comp
 use Rattle.journal_form.proofs.Numbers.{above-most, below_more}
 use Rattle.journal_form.proofs.Applied.{CompactFits, PublishFits, compact_opens, publish_opens}
 use Rattle.tablet_state.specs.Contents.{version_of}
-use Rattle.core_recover.specs.declared.replay.Replayed.{Replayed}
+use Rattle.core_recover.specs.declared.replaying.Replayed.{Replayed}
 use Rattle.core_recover.specs.Replaying.{HasCompacted, HasFollowed, HasPublished, HasRaised, HasStepped, IsReplayed, SoFar, Takes, versions_in}
 
 -- ---- numbers of new files
@@ -288,7 +288,7 @@ pub so_far_first : (records left : List Record) (form : ℕ) (schema : Layout) (
 so_far_first records left form schema s r split h built f =
     let one : form ≡ 1 = eqb-true form 1 (subst (AllByRecursion (λ (x : Record). IsTrue (is_built x))) split built).0 in
     let t : Standing = record { form = 1; epoch = 0; edit = 0; versions = no_versions schema; kept = []; levels = None } in
-    (t, f t refl, ap records_mean split ∙ ap (λ (n : ℕ). goes_on left (opens 0 (created n schema))) one)
+    (t, (f t refl, ap records_mean split ∙ ap (λ (n : ℕ). goes_on left (opens 0 (created n schema))) one))
 
 pub goes_on-none : (rs : List Record) → goes_on rs None ≡ None
 goes_on-none [] = refl
@@ -302,7 +302,7 @@ next_takes records left more told r t split h so = go (step so.0 told) refl
     on = sym (so.1.1 ∙ ap (λ (rs : List Record). goes_on rs (Some so.0)) split) ∙ h
 
     go : (o : Option Standing) → step so.0 told ≡ o → Takes r told
-    go (Some u) e = (so.0, so.1.0, subst IsSome (sym e) tt)
+    go (Some u) e = (so.0, (so.1.0, subst IsSome (sym e) refl))
     go None e = let none : goes_on more (step so.0 told) ≡ None = ap (goes_on more) e ∙ goes_on-none more in absurd (apart none on)
       where
         apart : (a : goes_on more (step so.0 told) ≡ None) (b : goes_on more (step so.0 told) ≡ Some t) → ⊥
@@ -315,7 +315,7 @@ next_so_far records left more told r new t split h so stepped_ = go (step so.0 t
     on = so.1.1 ∙ ap (λ (rs : List Record). goes_on rs (Some so.0)) split
 
     go : (o : Option Standing) → step so.0 told ≡ o → IfSome o (IsReplayed new) → SoFar records more new
-    go (Some u) e is = (u, is, on ∙ ap (goes_on more) e)
+    go (Some u) e is = (u, (is, on ∙ ap (goes_on more) e))
     go None e is = absurd (apart (on ∙ ap (goes_on more) e ∙ goes_on-none more))
       where
         apart : records_mean records ≡ None → ⊥

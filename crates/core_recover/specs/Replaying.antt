@@ -7,7 +7,7 @@ use Rattle.journal_form.specs.Versions.{Rowset, Versions, above, compacted_rowse
 use Rattle.journal_form.specs.Meaning.{Standing, goes_on, step}
 use Rattle.journal_form.specs.Standings.{records_mean}
 use Rattle.tablet_state.specs.Contents.{version_of}
-use Rattle.core_recover.specs.declared.replay.Replayed.{Replayed}
+use Rattle.core_recover.specs.declared.replaying.Replayed.{Replayed}
 
 -- the versions that were replayed, in the words of the journal
 abbrev pub versions_in : Replayed → Versions

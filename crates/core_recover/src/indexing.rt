@@ -32,7 +32,10 @@ fn place_of(numbers: &[u64], number: u64) -> Option<usize>
     ensures there { IfSome result (λ i. slice_get numbers.now i ≡ Some number) }
     ensures none { IfNone result (list_any (λ n. n == number) numbers.now ≡ false) }
 {
-    numbers.binary_search(&number).ok()
+    match numbers.binary_search(&number) {
+        Ok(place) => Some(place),
+        Err(_) => None,
+    }
 }
 
 // Puts the codes of a file's live rows into an index, with their places.
