@@ -22,6 +22,10 @@ use Rattle.core_publish.specs.Replies.{IsOpening, TellsShut}
 
 -- ---- which replies there are
 
+pub none_is : (o : Option ℕ) → ((p : ℕ) → o ≡ Some p → ⊥) → o ≡ None
+none_is None h = refl
+none_is (Some p) h = absurd (h p refl)
+
 abbrev kept_or : ℕ → ℕ → ℕ → Reply
 kept_or v floor current = if nat_lt v floor then reply.Expired floor else if nat_lt current v then reply.NotYet current else reply.Opened v
 

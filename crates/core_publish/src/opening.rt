@@ -1,4 +1,4 @@
-ghost use Rattle.std.specs.Prelude.{◌≡◌, ⊥, ℕ, IfErr, IfNone, IfOk, IfSome, None, OnOk, Some};
+ghost use Rattle.std.specs.Prelude.{◌≡◌, ℕ, IfErr, IfNone, IfOk, IfSome, None, OnOk, Some};
 ghost use Rattle.dev_traits.specs.View.{Calm};
 ghost use Rattle.pk_model.specs.declared.books.Book.{Book};
 ghost use Rattle.pk_model.specs.Books.{answer, rows_at};
