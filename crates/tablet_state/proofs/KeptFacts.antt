@@ -222,7 +222,7 @@ listed_at : (s : Layout) (stored : Files) (h : Held) (b : Book) (older : List (L
 listed_at s stored h b older current v i rowsets m holds olds last place at rows =
     let kept = (kept_are_held s (λ v. stored) h b v holds).0 m rows in
     let there : slice_get (h.older ++ h.current ∷ []) i ≡ Some (map parts rowsets) =
-        ap (λ (ws : List Rowsets). slice_get (ws ++ h.current ∷ []) i) olds ∙ ap (λ (w : Rowsets). slice_get (map rowsets_of (map (version_of s) older) ++ w ∷ []) i) last ∙ all_held s older current i rowsets at in
+    ap (λ (ws : List Rowsets). slice_get (ws ++ h.current ∷ []) i) olds ∙ ap (λ (w : Rowsets). slice_get (map rowsets_of (map (version_of s) older) ++ w ∷ []) i) last ∙ all_held s older current i rowsets at in
     let is : kept.0 ≡ map parts rowsets = go kept.0 (nat_lt v b.floor) kept.1 (ap (slice_get (h.older ++ h.current ∷ [])) (sym place) ∙ there) in
     let same : parts_of kept.0 ≡ parts (files_of rowsets) = ap parts_of is ∙ parts_are rowsets in
     subst (λ (ps : List Part). AreRowsOf s (listed (map (piece_of stored) ps)) m) same (version_is_listed s stored (parts_of kept.0) m kept.3 kept.2)
@@ -267,8 +267,8 @@ rows_counted view area end c segs b own has image left =
     let dead = has_dead (files_of c.current) good.current.fit in
     let stands = named_last (λ (f : NewFile). IsSegment c.schema (stored f.file) f image) c.schema c.older c.current (has.images.files image left) in
     let are : AreRowsOf c.schema (listed (map (piece_of stored) (parts (files_of c.current)))) b.current =
-        subst (λ (ps : List Part). AreRowsOf c.schema (listed (map (piece_of stored) ps)) b.current) (parts_are c.current)
-        (version_is_listed c.schema stored (parts_of (map parts c.current)) b.current holds.holds.files holds.holds.current) in
+    subst (λ (ps : List Part). AreRowsOf c.schema (listed (map (piece_of stored) ps)) b.current) (parts_are c.current)
+    (version_is_listed c.schema stored (parts_of (map parts c.current)) b.current holds.holds.files holds.holds.current) in
     sym (counted c.schema stored image (files_of c.current) dead stands) ∙ listed_are_counted c.schema (listed (map (piece_of stored) (parts (files_of c.current)))) b.current are
   where
     named_last : (P : NewFile → Type 0) (s : Layout) (ws : List (List ListedRowset)) (current : List ListedRowset) → AllByRecursion P (files_in (map (version_of s) ws ++ version_of s current ∷ []))
