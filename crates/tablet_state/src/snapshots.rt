@@ -101,11 +101,7 @@ fn parts_of<R: SealedReader>(
 }
 
 // One of the kept versions.
-fn version_at<'a>(
-    older: &'a [KeptVersion],
-    current: &'a KeptVersion,
-    i: usize,
-) -> &'a KeptVersion
+fn version_at<'a>(older: &'a [KeptVersion], current: &'a KeptVersion, i: usize) -> &'a KeptVersion
     requires { i < length older.now + 1 }
     ensures { slice_get (older.now ++ current.now ∷ []) i ≡ Some result.now }
 {

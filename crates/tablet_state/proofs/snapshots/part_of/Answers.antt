@@ -1,4 +1,4 @@
-use Rattle.std.proofs.Common.{◌≡◌, ◌∙◌, ◌<◌, List, Some, ap, arith, refl, sym, subst, length, map, slice_get}
+use Rattle.std.proofs.Common.{◌≡◌, ◌∙◌, List, Some, arith, refl, sym, subst, slice_get}
 use Rattle.std.proofs.lemmas.List.{length-map}
 use Rattle.segment_read.specs.declared.segments.Segment.{Segment}
 use Rattle.snapshot_scan.specs.Parts.{seen}
@@ -18,7 +18,7 @@ returns-in_err-segment-clause-same g c =
     let place = c.place_of-place.result in
     let x = c.index_mut.result.now in
     let is : slice_get segs place ≡ segment_of segs c.args.file.now.file = subst (λ n. slice_get segs place ≡ segment_of segs n) c.number.ensures
-        (subst (λ (xs : List (Segment g.row.R.Denot)). slice_get (segments_of view xs) place ≡ segment_of (segments_of view xs) c.number.result) c.as_slice.ensures.value c.place_of-place.ensures) in
+    (subst (λ (xs : List (Segment g.row.R.Denot)). slice_get (segments_of view xs) place ≡ segment_of (segments_of view xs) c.number.result) c.as_slice.ensures.value c.place_of-place.ensures) in
     let within = place_within segs c.args.file.now.file place is c.requires.there in
     let long = length-map items (segment_seen view) in
     let at : slice_get segs place ≡ Some (segment_seen view x) = mapped_at (segment_seen view) items items place x refl (omega arith) c.index_mut.ensures.value in
@@ -34,7 +34,7 @@ returns-clause-part g c =
     let place = c.place_of-place.result in
     let x = c.index_mut.result.now in
     let is : slice_get segs place ≡ segment_of segs c.args.file.now.file = subst (λ n. slice_get segs place ≡ segment_of segs n) c.number.ensures
-        (subst (λ (xs : List (Segment g.row.R.Denot)). slice_get (segments_of view xs) place ≡ segment_of (segments_of view xs) c.number.result) c.as_slice.ensures.value c.place_of-place.ensures) in
+    (subst (λ (xs : List (Segment g.row.R.Denot)). slice_get (segments_of view xs) place ≡ segment_of (segments_of view xs) c.number.result) c.as_slice.ensures.value c.place_of-place.ensures) in
     let within = place_within segs c.args.file.now.file place is c.requires.there in
     let long = length-map items (segment_seen view) in
     let at : slice_get segs place ≡ Some (segment_seen view x) = mapped_at (segment_seen view) items items place x refl (omega arith) c.index_mut.ensures.value in
@@ -49,7 +49,7 @@ returns-clause-same g c =
     let place = c.place_of-place.result in
     let x = c.index_mut.result.now in
     let is : slice_get segs place ≡ segment_of segs c.args.file.now.file = subst (λ n. slice_get segs place ≡ segment_of segs n) c.number.ensures
-        (subst (λ (xs : List (Segment g.row.R.Denot)). slice_get (segments_of view xs) place ≡ segment_of (segments_of view xs) c.number.result) c.as_slice.ensures.value c.place_of-place.ensures) in
+    (subst (λ (xs : List (Segment g.row.R.Denot)). slice_get (segments_of view xs) place ≡ segment_of (segments_of view xs) c.number.result) c.as_slice.ensures.value c.place_of-place.ensures) in
     let within = place_within segs c.args.file.now.file place is c.requires.there in
     let long = length-map items (segment_seen view) in
     let at : slice_get segs place ≡ Some (segment_seen view x) = mapped_at (segment_seen view) items items place x refl (omega arith) c.index_mut.ensures.value in

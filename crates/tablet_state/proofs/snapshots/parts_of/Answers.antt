@@ -38,7 +38,7 @@ loop-files-preserved g c =
     let new = map (seen view) c.join_parts.new.parts.items in
     let joined = c.in_ok-join_parts.ensures.joined before (parts_lent now first (sym c.loop-files.invariant.same) before old c.loop-files.invariant.joined) in
     let long : before ++ c.as_slice.result.now ≡ files_of (take (i + 1) rs) =
-        ap (λ (r : List ListedFile). before ++ r) c.as_slice.ensures ∙ sym (files_one rs i c.files-item.result (at_index rs i c.files-item.result c.loop-files-test.true c.files-item.is)) in
+    ap (λ (r : List ListedFile). before ++ r) c.as_slice.ensures ∙ sym (files_one rs i c.files-item.result (at_index rs i c.files-item.result c.loop-files-test.true c.files-item.is)) in
     record {
       same = lent_then first now (segments_of view c.join_parts.new.segments.items) c.loop-files.invariant.same c.join_parts.ensures.same;
       joined = subst (λ (fs : List ListedFile). ArePartsOf first fs new) long (parts_lent first now c.loop-files.invariant.same (before ++ c.as_slice.result.now) new joined);

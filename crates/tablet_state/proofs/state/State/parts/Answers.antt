@@ -1,4 +1,4 @@
-use Rattle.std.proofs.Common.{◌≡◌, ◌+◌, ◌-◌, ◌^◌, ◌<◌, ◌≤◌, ◌++◌, ◌∷◌, [], ◌∙◌, List, Some, map, length, min, refl, sym, ap, subst, slice_get, arith}
+use Rattle.std.proofs.Common.{◌≡◌, ◌+◌, ◌-◌, ◌^◌, ◌++◌, ◌∷◌, [], ◌∙◌, List, Some, map, length, min, refl, sym, ap, subst, slice_get, arith}
 use Rattle.std.proofs.lemmas.Result.{IfOk-weaker}
 use Rattle.dev_traits.proofs.Moments.{calm_none}
 use Rattle.journal_form.specs.Versions.{Rowset as ListedRowset, files_of}
@@ -15,7 +15,7 @@ use Rattle.tablet_state.proofs.state.State.parts.Goals as goal
 pub version_at-version-requires : goal.version_at-version-requires
 version_at-version-requires g c =
     let kept : IsKept (contents_of c.self.inside.schema c.self.inside.form c.self.inside.epoch c.self.inside.edit c.self.inside.next_file c.self.inside.floor c.self.inside.older.items c.self.inside.current c.self.inside.index.map) c.args.v =
-        subst (λ (x : Shown g.row.S.Denot). IsKept x.contents c.args.v) (sym c.self.view_is) c.requires in
+    subst (λ (x : Shown g.row.S.Denot). IsKept x.contents c.args.v) (sym c.self.view_is) c.requires in
     let high = kept.1 in
     let low = kept.0 in
     let long = ap length c.as_slice.ensures.value in
@@ -42,10 +42,10 @@ returns-clause-parts g c =
     let rowsets = c.version_at-version.result.now in
     let own : HasOwn old.contents old.segments = subst (λ (x : Shown g.row.S.Denot). HasOwn x.contents x.segments) c.self.view_is c.self.invariant.own in
     let there : rowsets_at old.contents c.args.v ≡ Some rowsets = subst (λ (x : Shown g.row.S.Denot). rowsets_at x.contents c.args.v ≡ Some rowsets) c.self.view_is
-        (ap (λ (ws : List (List ListedRowset)). slice_get (ws ++ at.current ∷ []) (c.args.v - at.floor)) (sym c.as_slice.ensures.value) ∙ c.version_at-version.ensures) in
+    (ap (λ (ws : List (List ListedRowset)). slice_get (ws ++ at.current ∷ []) (c.args.v - at.floor)) (sym c.as_slice.ensures.value) ∙ c.version_at-version.ensures) in
     let segs : segments_of read at.segments.items ≡ old.segments = ap (λ (x : Shown g.row.S.Denot). x.segments) c.self.view_is in
     IfOk-weaker c.parts_of.result _ _ (λ parts are. handed_parts view old c.args.v rowsets own there (map (seen read) parts.items)
-        (subst (λ (gs : List SegmentView). ArePartsOf gs (files_of rowsets) (map (seen read) parts.items)) segs are)) c.parts_of.ensures.parts
+    (subst (λ (gs : List SegmentView). ArePartsOf gs (files_of rowsets) (map (seen read) parts.items)) segs are)) c.parts_of.ensures.parts
 
 pub returns-clause-are : goal.returns-clause-are
 returns-clause-are g c =
@@ -56,10 +56,10 @@ returns-clause-are g c =
     let rowsets = c.version_at-version.result.now in
     let own : HasOwn old.contents old.segments = subst (λ (x : Shown g.row.S.Denot). HasOwn x.contents x.segments) c.self.view_is c.self.invariant.own in
     let there : rowsets_at old.contents c.args.v ≡ Some rowsets = subst (λ (x : Shown g.row.S.Denot). rowsets_at x.contents c.args.v ≡ Some rowsets) c.self.view_is
-        (ap (λ (ws : List (List ListedRowset)). slice_get (ws ++ at.current ∷ []) (c.args.v - at.floor)) (sym c.as_slice.ensures.value) ∙ c.version_at-version.ensures) in
+    (ap (λ (ws : List (List ListedRowset)). slice_get (ws ++ at.current ∷ []) (c.args.v - at.floor)) (sym c.as_slice.ensures.value) ∙ c.version_at-version.ensures) in
     let segs : segments_of read at.segments.items ≡ old.segments = ap (λ (x : Shown g.row.S.Denot). x.segments) c.self.view_is in
     IfOk-weaker c.parts_of.result _ _ (λ parts are. handed_are view old c.args.v rowsets own there (map (seen read) parts.items)
-        (subst (λ (gs : List SegmentView). ArePartsOf gs (files_of rowsets) (map (seen read) parts.items)) segs are)) c.parts_of.ensures.parts
+    (subst (λ (gs : List SegmentView). ArePartsOf gs (files_of rowsets) (map (seen read) parts.items)) segs are)) c.parts_of.ensures.parts
 
 pub returns-clause-stands : goal.returns-clause-stands
 returns-clause-stands g c =
@@ -70,10 +70,10 @@ returns-clause-stands g c =
     let rowsets = c.version_at-version.result.now in
     let own : HasOwn old.contents old.segments = subst (λ (x : Shown g.row.S.Denot). HasOwn x.contents x.segments) c.self.view_is c.self.invariant.own in
     let there : rowsets_at old.contents c.args.v ≡ Some rowsets = subst (λ (x : Shown g.row.S.Denot). rowsets_at x.contents c.args.v ≡ Some rowsets) c.self.view_is
-        (ap (λ (ws : List (List ListedRowset)). slice_get (ws ++ at.current ∷ []) (c.args.v - at.floor)) (sym c.as_slice.ensures.value) ∙ c.version_at-version.ensures) in
+    (ap (λ (ws : List (List ListedRowset)). slice_get (ws ++ at.current ∷ []) (c.args.v - at.floor)) (sym c.as_slice.ensures.value) ∙ c.version_at-version.ensures) in
     let segs : segments_of read at.segments.items ≡ old.segments = ap (λ (x : Shown g.row.S.Denot). x.segments) c.self.view_is in
     IfOk-weaker c.parts_of.result _ _ (λ parts are. handed_stand view old c.args.v rowsets own there (map (seen read) parts.items)
-        (subst (λ (gs : List SegmentView). ArePartsOf gs (files_of rowsets) (map (seen read) parts.items)) segs are) g.met.S.Store.honest_reads) c.parts_of.ensures.parts
+    (subst (λ (gs : List SegmentView). ArePartsOf gs (files_of rowsets) (map (seen read) parts.items)) segs are) g.met.S.Store.honest_reads) c.parts_of.ensures.parts
 
 pub returns-clause-unfailed : goal.returns-clause-unfailed
 returns-clause-unfailed g c =
