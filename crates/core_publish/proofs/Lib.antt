@@ -6,3 +6,7 @@ pub mod PlaceFacts
 pub mod PublicationFacts
 pub mod SettleFacts
 pub mod EntryFacts
+pub mod LoopFacts
+pub mod OldPlaces
+pub mod ChangeFacts
+pub mod TurnFacts

@@ -1,11 +1,16 @@
 //! Loads as a tablet takes them: prepared outside of any turn, published in one.
 #![tactic(auto)]
 
+mod entries;
 mod files;
 mod laws;
 mod lines;
+mod places;
 mod prepared;
+mod publish;
+mod ready;
 mod results;
 
 pub use laws::prepared_loads;
 pub use prepared::{Prepared, prepare};
+pub use publish::publish;

@@ -1,0 +1,206 @@
+-- A prepared load is the change of its load over a book.
+use Rattle.std.proofs.Common.{◌≡◌, refl, ap, sym, subst, ◌∙◌, inl, inr, ℕ, suc, ◌+◌, ◌-◌, ◌<◌, ◌≤◌, List, [], ◌∷◌, ◌++◌, map, length, Option, Some, None, Bool as Truth, true, false, ◌||◌, cond, arith, is_some, slice_get, append-nil}
+use Rattle.std.specs.Prelude.{All, IsTrue, option_to_list}
+use Rattle.std.specs.List.{AllByRecursion}
+use Rattle.std.specs.Cmp.{tied_itself}
+use Rattle.std.specs.FinMap.{empty, get, values}
+use Rattle.std.specs.Ordering.{eq_by_cmp, is_eq}
+use Rattle.std.proofs.lemmas.Bool.{eq-eqb, or_cases, or_left, or_right}
+use Rattle.std.proofs.lemmas.Map.Views.{tells_apart}
+use Rattle.column_page.specs.Footers.{is_footer}
+use Rattle.column_page.specs.declared.footers.Footer.{Footer}
+use Rattle.dev_traits.specs.Image.{Image}
+use Rattle.dev_traits.specs.View.{View}
+use Rattle.index_level0.specs.declared.place.Place.{Place}
+use Rattle.key_code.specs.KeyCode.{key_code}
+use Rattle.pk_values.specs.Order.{key_cmp}
+use Rattle.pk_values.specs.OrderFacts.{key_exact, key_total}
+use Rattle.pk_values.specs.Schemas.{Layout, fits_key, schema_fault}
+use Rattle.pk_values.specs.declared.cells.Value.{Value}
+use Rattle.segment_form.specs.Segments.{AreSegmentRows, footer_of, segment_file}
+use Rattle.segment_form.proofs.Blocks.{segment_footer_is}
+use Rattle.segment_read.specs.Footers.{HasFooter}
+use Rattle.segment_read.proofs.Intact.{has_its_footer}
+use Rattle.pk_model.specs.Tables.{after, key_named, touches}
+use Rattle.pk_model.specs.declared.books.Book.{Book}
+use Rattle.pk_model.specs.declared.calls.Load.{Load}
+use Rattle.pk_model.specs.declared.calls.Op.{Op}
+use Rattle.rowsets.specs.Live.{Files, Index, Live, Part, is_among, live}
+use Rattle.rowsets.specs.Loads.{AreRows, ComeWithRow}
+use Rattle.rowsets.specs.Marks.{marked, stands_in}
+use Rattle.rowsets.specs.Merging.{all_live, numbered, with_files}
+use Rattle.rowsets.specs.Indexing.{CodeMap, CodeMove, by_code, code_moves, places_of}
+use Rattle.rowsets.specs.Steps.{HaveSame, IsReady}
+use Rattle.tablet_state.specs.Contents.{Contents, begun_of, index_of, standing_of}
+use Rattle.tablet_state.specs.Readies.{AreSealed, IsChangeOf, IsMadeOf, NewSegment}
+use Rattle.tablet_state.specs.State.{HasStore}
+use Rattle.tablet_state.proofs.RowFacts.{held_rows_fit}
+use Rattle.core_publish.specs.Lines.{IsShortKey}
+use Rattle.core_publish.specs.Prepared.{AreSealedOf, IsPrepared, files_from, files_of, fresh, moves_to, place_in}
+use Rattle.core_publish.specs.Publication.{entry_from, placed_from, written_files}
+use Rattle.core_publish.specs.Publishing.{IsFrom, entry_back, placed_back, stored_places}
+use Rattle.core_publish.proofs.EntryFacts.{entries-are-moves, length-files, prepared-is-ready}
+use Rattle.core_publish.proofs.SettleFacts.{short-keys}
+
+abbrev Key : Type 0
+Key = List Value
+
+nothing : {X : Type 0} → false ≡ true → X
+nothing e = absurd (cc e)
+
+-- ---- its keys
+
+touched-fits : (s : Layout) (ops : List Op) → All (λ op. IsShortKey s (key_named op)) ops → (k : Key) → is_among (touches ops) k ≡ true → fits_key s k ≡ true
+touched-fits s [] short k e = nothing e
+touched-fits s (op ∷ ops) short k e =
+    elim (or_cases (eq_by_cmp key_cmp k (key_named op)) (is_among (touches ops) k) e) [
+      | inl h ↦ subst (λ (j : Key). fits_key s j ≡ true) (sym (tells_apart key_exact k (key_named op) h)) (short 0 op (omega arith)).fits
+      | inr h ↦ touched-fits s ops (λ i d lt. short (suc i) d (omega arith)) k h
+    ]
+
+each-key : (P : Key → Type 0) (keys : List Key) → ((k : Key) → is_among keys k ≡ true → P k) → AllByRecursion P keys
+each-key P [] f = tt
+each-key P (k ∷ keys) f = (
+  f k (or_left (eq_by_cmp key_cmp k k) (is_among keys k) (ap is_eq (tied_itself key_total k))),
+  each-key P keys (λ j e. f j (or_right (eq_by_cmp key_cmp j k) (is_among keys j) e)),
+)
+
+abbrev KeysFit : Layout → List Key → Type 0
+KeysFit s keys = AllByRecursion (λ k. fits_key s k ≡ true) keys
+
+keys-fit : (s : Layout) (load : Load) (files : List NewSegment) (entries : List CodeMove) (p : IsPrepared s load files entries) → KeysFit s p.moves.keys
+keys-fit s load files entries p =
+    each-key (λ k. fits_key s k ≡ true) p.moves.keys
+    (λ k e. touched-fits s load.ops (short-keys s load load.ops refl p.lawful) k (sym (p.moves.touched k) ∙ e))
+
+moves-fit : (s : Layout) (first : ℕ) (files : List (List (List Value))) (keys : List Key) → KeysFit s keys → AllByRecursion (λ c. fits_key s c.key ≡ true) (moves_to s first files keys)
+moves-fit s first files [] h = tt
+moves-fit s first files (k ∷ keys) h = (h.0, moves-fit s first files keys h.1)
+
+-- what is stored at their codes is where the index has them
+stored-found : (s : Layout) (codes : CodeMap) (first : ℕ) (files : List (List (List Value))) (keys : List Key) → KeysFit s keys
+    → stored_places codes (code_moves (key_code s) (moves_to s first files keys)) ≡ places_of (by_code (fits_key s) (key_code s) (get codes)) keys
+stored-found s codes first files [] h = refl
+stored-found s codes first files (k ∷ keys) h =
+    let at : get codes (key_code s k) ≡ cond (fits_key s k) (get codes (key_code s k)) None = sym (ap (λ (t : Truth). cond t (get codes (key_code s k)) None) h.0) in
+    λ i. option_to_list (at i) ++ stored-found s codes first files keys h.1 i
+
+pub found-places : (s : Layout) (load : Load) (files : List NewSegment) (entries : List CodeMove) (codes : CodeMap) (p : IsPrepared s load files entries)
+    → stored_places codes entries ≡ places_of (by_code (fits_key s) (key_code s) (get codes)) p.moves.keys
+found-places s load files entries codes p =
+    ap (stored_places codes) p.moves.are ∙ stored-found s codes 0 (written_files s load) p.moves.keys (keys-fit s load files entries p)
+
+-- ---- its files
+
+sealed-told : (s : Layout) (files : List (List (List Value))) (made : List NewSegment) → AreSealedOf s files made → AllByRecursion (λ m. is_some m.0 ≡ true) made → AreSealed s files made
+sealed-told s [] [] are told = tt
+sealed-told s [] (m ∷ made) are told = absurd are
+sealed-told s (rows ∷ files) [] are told = absurd are
+sealed-told s (rows ∷ files) (m ∷ made) are told = (are.0, told_is m.0 told.0 are.1, are.2, sealed-told s files made are.3 told.1)
+  where
+    told_is : (o : Option (List ℕ)) → is_some o ≡ true → ((bytes : List ℕ) → o ≡ Some bytes → bytes ≡ segment_file s rows) → o ≡ Some (segment_file s rows)
+    told_is None e h = nothing e
+    told_is (Some bytes) e h = ap Some (h bytes refl)
+
+made-of : (s : Layout) (rows : List (List Value)) (m : NewSegment) → schema_fault s.columns s.keys ≡ None → AreSegmentRows s rows → ((bytes : List ℕ) → m.0 ≡ Some bytes → bytes ≡ segment_file s rows) → m.1 ≡ footer_of s rows
+    → IsMadeOf s m
+made-of s rows m lawful are bytes footer =
+    let is = segment_footer_is s rows lawful are in
+    record {
+      is = subst (λ (f : Footer). IsTrue (is_footer f)) (sym footer) is.is;
+      known = λ file told. subst (λ (f : Footer). HasFooter s f file) (sym footer) (subst (HasFooter s (footer_of s rows)) (sym (bytes file told)) (has_its_footer s rows is));
+    }
+
+known-all : (s : Layout) (files : List (List (List Value))) (made : List NewSegment) → schema_fault s.columns s.keys ≡ None → AreSealedOf s files made → AllByRecursion (IsMadeOf s) made
+known-all s [] [] lawful are = tt
+known-all s [] (m ∷ made) lawful are = absurd are
+known-all s (rows ∷ files) [] lawful are = absurd are
+known-all s (rows ∷ files) (m ∷ made) lawful are = (made-of s rows m lawful are.0 are.1 are.2, known-all s files made lawful are.3)
+
+as-many : (s : Layout) (files : List (List (List Value))) (made : List NewSegment) → AreSealedOf s files made → length made ≡ length files
+as-many s [] [] are = refl
+as-many s [] (m ∷ made) are = absurd are
+as-many s (rows ∷ files) [] are = absurd are
+as-many s (rows ∷ files) (m ∷ made) are = ap suc (as-many s files made are.3)
+
+pub known : (s : Layout) (load : Load) (files : List NewSegment) (entries : List CodeMove) → schema_fault s.columns s.keys ≡ None → IsPrepared s load files entries → AllByRecursion (IsMadeOf s) files
+known s load files entries lawful p = known-all s (written_files s load) files lawful p.sealed
+
+pub four-files : (s : Layout) (load : Load) (files : List NewSegment) (entries : List CodeMove) → IsPrepared s load files entries → length files ≤ 4
+four-files s load files entries p =
+    let rows = values (after s load empty) in
+    omega (arith, as-many s (written_files s load) files p.sealed, length-files ((length rows + 65535) / 65536) rows, p.few)
+
+-- the first row of the first file, if there is one
+comes : (s : Layout) (first : ℕ) (files : List (List (List Value))) (made : List NewSegment) → AreSealedOf s files made → ComeWithRow (fresh first files) [] (map all_live (numbered first files))
+comes s first [] made are = inl refl
+comes s first (rows ∷ files) [] are = absurd are
+comes s first ([] ∷ files) (m ∷ made) are = absurd (let some = are.0.some in omega (arith, some))
+comes s first ((row ∷ rows) ∷ files) (m ∷ made) are =
+    let e = eq-eqb first first refl in
+    let p : Place = record { segment = first; row = 0 } in
+    let here : with_files first ((row ∷ rows) ∷ files) (λ n. []) first ≡ row ∷ rows = ap (λ (t : Truth). cond t (row ∷ rows) (with_files (first + 1) files (λ n. []) first)) e in
+    inr (
+      p,
+      row,
+      ap (λ (t : Truth). cond t (slice_get (with_files first ((row ∷ rows) ∷ files) (λ n. []) first) 0) (live (fresh first ((row ∷ rows) ∷ files)) (marked [] (map all_live (numbered (first + 1) files))) p)) e
+      ∙ ap (λ (file : List (List Value)). slice_get file 0) here,
+    )
+
+marked-none : (parts : List Part) → marked [] parts ≡ parts
+marked-none [] = refl
+marked-none (part ∷ parts) = ap (λ (ps : List Part). part ∷ ps) (marked-none parts)
+
+-- ---- the change
+
+none-stands : (X : Type 0) (p : Place) → stands_in [] p ≡ true → X
+none-stands X p e = nothing e
+
+pub load-change : (s : Layout) (load : Load) (files : List NewSegment) (entries : List CodeMove) (p : IsPrepared s load files entries) (index : Index) (b : Book) (first : ℕ) (dead : List Place) (moved : List CodeMove)
+    → AllByRecursion (λ m. is_some m.0 ≡ true) files → AreRows s b.current → moved ≡ map (entry_from first) entries → HaveSame dead (places_of index p.moves.keys)
+    → IsChangeOf s index b load first files dead moved
+load-change s load files entries p index b first dead moved told are same found =
+    let rows = written_files s load in
+    let keys = p.moves.keys in
+    let parts = map all_live (numbered first rows) in
+    record {
+      files = rows;
+      sealed = sealed-told s rows files p.sealed told;
+      moves = moves_to s first rows keys;
+      fit = moves-fit s first rows keys (keys-fit s load files entries p);
+      entries_are = same ∙ entries-are-moves s load files entries p first;
+      publication = record {
+        lawful = p.lawful;
+        looked_up = keys;
+        stale = [];
+        ready = subst (λ (ps : List Part). IsReady s load b.current index (live (fresh first rows) ps) keys (moves_to s first rows keys)) (sym (marked-none parts))
+            (prepared-is-ready s load files entries p first b.current index are);
+        of_new = λ q e. none-stands _ q e;
+        found = λ q. found q ∙ ap (λ (ps : List Place). stands_in ps q) (sym (append-nil (places_of index keys)));
+        come = comes s first rows files p.sealed;
+      };
+    }
+
+-- the rows of a book that a store has fit
+pub rows-of-book : (u : View) (area end : ℕ) (c : Contents) (b : Book) → (IsTrue u.is_honest → (image : Image) × (u.seen ≡ Some image) × u.may_leave image) → HasStore u area end c b → AreRows c.schema b.current
+rows-of-book u area end c b reads has =
+    let image = reads has.journal.settled.honest in
+    held_rows_fit c.schema has.stored (standing_of c has.kept) (index_of c) (begun_of c) b image.0 has.holds (has.files image.0 image.2)
+
+-- ---- numbered from elsewhere, and back
+
+back-place : (first : ℕ) (o : Option Place) → placed_back first (placed_from first o) ≡ o
+back-place first None = refl
+back-place first (Some p) = let e : p.segment + first - first ≡ p.segment = omega arith in λ i. Some (record { segment = e i; row = p.row })
+
+pub back-again : (first : ℕ) (entries : List CodeMove) → map (entry_back first) (map (entry_from first) entries) ≡ entries
+back-again first [] = refl
+back-again first (e ∷ es) = λ i. (e.0, back-place first e.1 i) ∷ back-again first es i
+
+from-place : (first : ℕ) (o : Option Place) → IsFrom first (placed_from first o)
+from-place first None = tt
+from-place first (Some p) = omega arith
+
+pub all-from : (first : ℕ) (entries : List CodeMove) → AllByRecursion (λ e. IsFrom first e.1) (map (entry_from first) entries)
+all-from first [] = tt
+all-from first (e ∷ es) = (from-place first e.1, all-from first es)
