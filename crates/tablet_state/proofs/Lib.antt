@@ -18,3 +18,4 @@ pub mod ReadyFacts
 pub mod Refusing
 pub mod Opening
 pub mod RowFacts
+pub mod Living

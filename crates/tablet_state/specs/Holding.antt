@@ -78,6 +78,8 @@ pub record IsPublication (s : Layout) (index : Index) (b : Book) (load : Load) (
   pub stale : List Place
   pub ready : IsReady s load b.current index (live (fresh first files) (marked stale (map all_live (numbered first files)))) looked_up moves
   pub of_new : (p : Place) → stands_in stale p ≡ true → names (map all_live (numbered first files)) p.segment ≡ true
+  pub of_rows : (p : Place) → stands_in stale p ≡ true
+      → (row : List Value) × (live (fresh first files) (map all_live (numbered first files)) p ≡ Some row)
   pub found : HaveSame dead (places_of index looked_up ++ stale)
   pub come : ComeWithRow (fresh first files) stale (map all_live (numbered first files))
 

@@ -1,7 +1,9 @@
-ghost use Rattle.std.specs.Prelude.{◌≡◌, ◌+◌, ◌-◌, ◌^◌, min, IfOk, IsSome};
+ghost use Rattle.std.specs.Prelude.{◌≡◌, ◌+◌, ◌-◌, ◌^◌, min, IfOk, IsSome, None};
 ghost use Rattle.dev_traits.specs.Causes.{Counts};
-ghost use Rattle.dev_traits.specs.View.{Calm};
+ghost use Rattle.dev_traits.specs.View.{Calm, EachImage};
+ghost use Rattle.pk_model.specs.Durable.{durable};
 ghost use Rattle.pk_model.specs.declared.books.Book.{Book};
+ghost use Rattle.tablet_state.specs.Stands.{Stands};
 ghost use Rattle.tablet_state.specs.State.{Has, Rests, faults_of, reader_faults};
 ghost use Rattle.tablet_state.specs.Seen.{segments_of};
 
@@ -43,6 +45,10 @@ impl<S: Store> State<S> {
     pub fn into_store(self) -> S
         ensures calm { Calm (S.view self.store) (S.view result) }
         ensures counts { Counts (self.maker_faults + reader_faults self.segments) (S.view self.store).faults (S.view result).faults }
+
+        // What a crash may leave of an open state's store stands for what lasts of the book that the state has.
+        ensures stands { (b : Book) → Has S.view self b → self.closed ≡ None
+            → EachImage (S.view result) (Stands self.contents.schema (durable b)) }
     {
         let State {
             mut store,

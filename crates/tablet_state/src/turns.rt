@@ -1,4 +1,4 @@
-ghost use Rattle.std.specs.Prelude.{◌≡◌, ◌+◌, ◌-◌, ◌^◌, ◌<◌, ◌≤◌, ◌++◌, ◌∷◌, [], ℕ, List, Option, None, Some, true, map, min, vec_len, length, OnOk, OnErr, IfOk, IfErr, IfSome};
+ghost use Rattle.std.specs.Prelude.{◌≡◌, ◌+◌, ◌-◌, ◌^◌, ◌<◌, ◌≤◌, ◌++◌, ◌∷◌, [], ℕ, List, Option, None, Some, true, is_some, map, min, vec_len, length, OnOk, OnErr, IfOk, IfErr, IfSome};
 ghost use Rattle.std.specs.List.{AllByRecursion};
 ghost use Rattle.dev_traits.specs.View.{Calm};
 ghost use Rattle.pk_model.specs.declared.books.Book.{Book};
@@ -100,8 +100,13 @@ impl<S: Store> State<S> {
         ensures next { OnOk result (self.new.contents ≡ next_contents (vec_len ready.change.files) ready.current ready.change.index.items self.old.contents) }
         ensures same { OnErr result (self.new.contents ≡ self.old.contents) }
 
-        // No segment's reader reads.
-        ensures reads { (more : List (ℕ × ℕ)) × (reads_of self.new.segments ≡ reads_of self.old.segments ++ more) }
+        // No segment's reader reads, and those of new files have read nothing.
+        ensures reads { (more : List (ℕ × ℕ)) × (reads_of self.new.segments ≡ reads_of self.old.segments ++ more)
+            × AllByRecursion (λ p. p.1 ≡ 0) more }
+
+        // An honest store stays honest, and one that tells still tells, also where it failed.
+        ensures honest { (S.view self.new.store).is_honest ≡ (S.view self.old.store).is_honest }
+        ensures tells { is_some (S.view self.new.store).seen ≡ is_some (S.view self.old.store).seen }
     {
         let Ready {
             change,
