@@ -1,11 +1,11 @@
 -- A prepared load is the change of its load over a book.
-use Rattle.std.proofs.Common.{◌≡◌, refl, ap, sym, subst, ◌∙◌, inl, inr, ℕ, suc, ◌+◌, ◌-◌, ◌<◌, ◌≤◌, List, [], ◌∷◌, ◌++◌, map, length, Option, Some, None, Bool as Truth, true, false, ◌||◌, cond, arith, is_some, slice_get, append-nil}
+use Rattle.std.proofs.Common.{◌≡◌, refl, ap, sym, subst, ◌∙◌, inl, inr, ℕ, suc, ◌+◌, ◌-◌, ◌<◌, ◌≤◌, List, [], ◌∷◌, ◌++◌, map, length, Option, Some, None, Bool as Truth, true, false, ◌||◌, ◌&&◌, ◌==◌, nat_lt, cond, arith, is_some, slice_get, append-nil}
 use Rattle.std.specs.Prelude.{All, IsTrue, option_to_list}
-use Rattle.std.specs.List.{AllByRecursion}
+use Rattle.std.specs.List.{AllByRecursion, list_all}
 use Rattle.std.specs.Cmp.{tied_itself}
 use Rattle.std.specs.FinMap.{empty, get, values}
 use Rattle.std.specs.Ordering.{eq_by_cmp, is_eq}
-use Rattle.std.proofs.lemmas.Bool.{eq-eqb, or_cases, or_left, or_right}
+use Rattle.std.proofs.lemmas.Bool.{and_from, and_parts, eq-eqb, or_cases, or_left, or_right}
 use Rattle.std.proofs.lemmas.Map.Views.{tells_apart}
 use Rattle.column_page.specs.Footers.{is_footer}
 use Rattle.column_page.specs.declared.footers.Footer.{Footer}
@@ -27,10 +27,15 @@ use Rattle.pk_model.specs.declared.calls.Load.{Load}
 use Rattle.pk_model.specs.declared.calls.Op.{Op}
 use Rattle.rowsets.specs.Live.{Files, Index, Live, Part, is_among, live}
 use Rattle.rowsets.specs.Loads.{AreRows, ComeWithRow}
-use Rattle.rowsets.specs.Marks.{marked, stands_in}
+use Rattle.rowsets.specs.Marks.{marked, same_place, stands_in}
 use Rattle.rowsets.specs.Merging.{all_live, numbered, with_files}
 use Rattle.rowsets.specs.Indexing.{CodeMap, CodeMove, by_code, code_moves, places_of}
 use Rattle.rowsets.specs.Steps.{HaveSame, IsReady}
+use Rattle.journal_form.specs.declared.records.ListedFile.{ListedFile}
+use Rattle.journal_form.specs.declared.records.NewFile.{NewFile}
+use Rattle.journal_form.specs.Versions.{Rowset as ListedRowset, file_numbered, files_of as listed_files, published_rowsets, whole_file}
+use Rattle.kept_versions.specs.Files.{can_die, row_lives}
+use Rattle.kept_versions.proofs.ChangeFacts.{published_files}
 use Rattle.tablet_state.specs.Contents.{Contents, begun_of, index_of, standing_of}
 use Rattle.tablet_state.specs.Readies.{AreSealed, IsChangeOf, IsMadeOf, NewSegment}
 use Rattle.tablet_state.specs.State.{HasStore}
@@ -38,7 +43,7 @@ use Rattle.tablet_state.proofs.RowFacts.{held_rows_fit}
 use Rattle.core_publish.specs.Lines.{IsShortKey}
 use Rattle.core_publish.specs.Prepared.{AreSealedOf, IsPrepared, files_from, files_of, fresh, moves_to, place_in}
 use Rattle.core_publish.specs.Publication.{entry_from, placed_from, written_files}
-use Rattle.core_publish.specs.Publishing.{IsFrom, entry_back, placed_back, stored_places}
+use Rattle.core_publish.specs.Publishing.{IsFrom, IsWrongIndex, entry_back, placed_back, stored_places}
 use Rattle.core_publish.proofs.EntryFacts.{entries-are-moves, length-files, prepared-is-ready}
 use Rattle.core_publish.proofs.SettleFacts.{short-keys}
 
@@ -176,6 +181,7 @@ load-change s load files entries p index b first dead moved told are same found 
         ready = subst (λ (ps : List Part). IsReady s load b.current index (live (fresh first rows) ps) keys (moves_to s first rows keys)) (sym (marked-none parts))
             (prepared-is-ready s load files entries p first b.current index are);
         of_new = λ q e. none-stands _ q e;
+        of_rows = λ q e. none-stands _ q e;
         found = λ q. found q ∙ ap (λ (ps : List Place). stands_in ps q) (sym (append-nil (places_of index keys)));
         come = comes s first rows files p.sealed;
       };
@@ -204,3 +210,43 @@ from-place first (Some p) = omega arith
 pub all-from : (first : ℕ) (entries : List CodeMove) → AllByRecursion (λ e. IsFrom first e.1) (map (entry_from first) entries)
 all-from first [] = tt
 all-from first (e ∷ es) = (from-place first e.1, all-from first es)
+
+-- ---- rows that aren't live
+
+lives-more : (xs ys : List ListedFile) (n r : ℕ) → row_lives (file_numbered n xs) r ≡ true → row_lives (file_numbered n (xs ++ ys)) r ≡ true
+lives-more [] ys n r h = nothing h
+lives-more (f ∷ xs) ys n r h = go (f.file == n) h (lives-more xs ys n r)
+  where
+    go : (t : Truth) → row_lives (cond t (Some f) (file_numbered n xs)) r ≡ true → (row_lives (file_numbered n xs) r ≡ true → row_lives (file_numbered n (xs ++ ys)) r ≡ true)
+        → row_lives (cond t (Some f) (file_numbered n (xs ++ ys))) r ≡ true
+    go true e more = e
+    go false e more = more e
+
+-- a row that can die in a version can die in the next one
+dies-still : (files : List NewFile) (current : List ListedRowset) (p : Place) → can_die current p ≡ true → can_die (published_rowsets files current) p ≡ true
+dies-still files current p h =
+    let both = and_parts (nat_lt p.row 65536) (row_lives (file_numbered p.segment (listed_files current)) p.row) h in
+    and_from (nat_lt p.row 65536) (row_lives (file_numbered p.segment (listed_files (published_rowsets files current))) p.row) both.0
+    (ap (λ (fs : List ListedFile). row_lives (file_numbered p.segment fs) p.row) (sym (published_files files current)) ∙ lives-more (listed_files current) (map whole_file files) p.segment p.row both.1)
+
+one-dead : (f : Place → Truth) (ps : List Place) → list_all f ps ≡ false → (p : Place) × (stands_in ps p ≡ true) × (f p ≡ false)
+one-dead f [] h = absurd (cc h)
+one-dead f (p ∷ ps) h = go (f p) refl h
+  where
+    here : stands_in (p ∷ ps) p ≡ true
+    here = or_left (same_place p p) (stands_in ps p) (λ i. eq-eqb p.segment p.segment refl i && eq-eqb p.row p.row refl i)
+
+    go : (t : Truth) → f p ≡ t → (t && list_all f ps) ≡ false → (q : Place) × (stands_in (p ∷ ps) q ≡ true) × (f q ≡ false)
+    go false e h = (p, here, e)
+    go true e h = let later = one-dead f ps h in (later.0, or_right (same_place later.0 p) (stands_in ps later.0) later.1, later.2)
+
+-- a refusal of the places that an index has tells a row that isn't live
+pub wrong-row : (c : Contents) (entries : List CodeMove) (files : List NewFile) (dead : List Place) → HaveSame dead (stored_places c.codes entries)
+    → list_all (can_die (published_rowsets files c.current)) dead ≡ false → IsWrongIndex c entries
+wrong-row c entries files dead same h =
+    let one = one-dead (can_die (published_rowsets files c.current)) dead h in
+    inr (one.0, sym (same one.0) ∙ one.1, gone one.0 one.2 (can_die c.current one.0) refl)
+  where
+    gone : (p : Place) → can_die (published_rowsets files c.current) p ≡ false → (t : Truth) → can_die c.current p ≡ t → can_die c.current p ≡ false
+    gone p e false f = f
+    gone p e true f = absurd (cc (sym (dies-still files c.current p f) ∙ e))

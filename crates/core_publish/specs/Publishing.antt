@@ -1,12 +1,16 @@
 -- What publishing does with the entries of a prepared load, and which replies it gives.
-use Rattle.std.specs.Prelude.{◌≡◌, ◌⊎◌, ℕ, ◌-◌, ◌<◌, ◌==◌, ◌≤◌, ⊤, List, [], ◌∷◌, ◌++◌, map, Option, Some, None, Bool as Truth, true, false, ◌||◌, ◌&&◌, nat_lt, option_to_list, count_by}
+use Rattle.std.specs.Prelude.{◌≡◌, ◌⊎◌, ℕ, ◌-◌, ◌==◌, ◌≤◌, ⊤, List, [], ◌∷◌, ◌++◌, Option, Some, None, Bool as Truth, true, false, ◌||◌, ◌&&◌, nat_lt, option_to_list, count_by}
 use Rattle.std.specs.FinMap.{get}
-use Rattle.column_page.specs.declared.footers.Footer.{Footer}
+use Rattle.dev_traits.specs.declared.faults.Damaged.{Damaged}
+use Rattle.dev_traits.specs.declared.faults.Part.TheVariants as part
+use Rattle.dev_traits.specs.declared.faults.Shown.TheVariants as shown
 use Rattle.index_level0.specs.declared.place.Place.{Place}
 use Rattle.pk_model.specs.declared.calls.Reply.{Reply}
 use Rattle.pk_model.specs.declared.calls.Reply.TheVariants as reply
 use Rattle.rowsets.specs.Indexing.{CodeMap, CodeMove}
-use Rattle.rowsets.specs.Marks.{same_place}
+use Rattle.rowsets.specs.Marks.{same_place, stands_in}
+use Rattle.kept_versions.specs.Files.{can_die}
+use Rattle.tablet_state.specs.Contents.{Contents}
 use Rattle.core_publish.specs.Prepared.{PreparedView}
 
 -- the places that are stored at the codes of entries
@@ -14,13 +18,22 @@ abbrev pub stored_places : CodeMap → List CodeMove → List Place
 stored_places codes [] = []
 stored_places codes (e ∷ es) = option_to_list (get codes e.0) ++ stored_places codes es
 
--- the place of an earlier file, or of an earlier row of one file
-abbrev pub is_below : Place → Place → Truth
-is_below p q = nat_lt p.segment q.segment || ((p.segment == q.segment) && nat_lt p.row q.row)
-
 -- one place stands twice among these
 abbrev pub StandsTwice : List Place → Type 0
 StandsTwice places = (p : Place) × (2 ≤ count_by (same_place p) places)
+
+-- The index has two of these codes at one row, or one at a row that isn't a live one of the current version.
+abbrev pub IsWrongIndex : Contents → List CodeMove → Type 0
+IsWrongIndex c entries = StandsTwice (stored_places c.codes entries)
+    ⊎ ((p : Place) × (stands_in (stored_places c.codes entries) p ≡ true) × (can_die c.current p ≡ false))
+
+-- the damage that it is
+abbrev pub index_damage : Damaged
+index_damage = record { file = 0; part = part.Area 2; shown = shown.Form }
+
+-- the place of an earlier file, or of an earlier row of one file
+abbrev pub is_below : Place → Place → Truth
+is_below p q = nat_lt p.segment q.segment || ((p.segment == q.segment) && nat_lt p.row q.row)
 
 -- a place whose file is numbered from 0, where it was numbered from `first` on
 abbrev pub placed_back : ℕ → Option Place → Option Place

@@ -1,4 +1,5 @@
-ghost use Rattle.std.specs.Prelude.{◌≡◌, ◌+◌, ◌-◌, ◌^◌, ◌++◌, ⊥, ℕ, List, Some, None, false, true, min};
+ghost use Rattle.std.specs.Prelude.{◌≡◌, ◌+◌, ◌-◌, ◌^◌, ◌++◌, ⊥, ℕ, List, Some, None, false, true, min, is_some};
+ghost use Rattle.std.specs.List.{AllByRecursion};
 ghost use Rattle.dev_traits.specs.Causes.{RoseBy};
 ghost use Rattle.dev_traits.specs.declared.faults.Damaged.{Damaged};
 ghost use Rattle.pk_model.specs.declared.books.Book.{Book};
@@ -8,7 +9,7 @@ ghost use Rattle.pk_model.specs.declared.calls.Reply.TheVariants as reply;
 ghost use Rattle.tablet_state.specs.Contents.{current_number, worn_of};
 ghost use Rattle.tablet_state.specs.State.{Has, Rests, StandsThroughout, Steps, faults_of, reads_of, refusal_of};
 ghost use Rattle.core_publish.specs.Replies.{TellsShut, shut_after, told_by_reply};
-ghost use Rattle.core_publish.specs.Publishing.{IsPublishing, published_in, uses_up};
+ghost use Rattle.core_publish.specs.Publishing.{IsPublishing, IsWrongIndex, index_damage, published_in, uses_up};
 
 use crate::Prepared;
 use crate::ready::{UnreadyFault, ready_of};
@@ -50,6 +51,9 @@ pub fn publish<S: Store>(
         (S.view state.new.store) }
 
     ensures only { IsPublishing result }
+    // Damage is that of the index, and a state that has a book meets none.
+    ensures damaged { (d : Damaged) → result ≡ reply.Damaged d
+        → (d ≡ index_damage) × IsWrongIndex state.old.contents prepared.old.entries }
     ensures intact { (b : Book) → Has S.view state.old b → (d : Damaged) → result ≡ reply.Damaged d → ⊥ }
     ensures tells { TellsShut state.old.closed result }
     ensures shut { state.new.closed ≡ shut_after state.old.closed seq result }
@@ -64,17 +68,22 @@ pub fn publish<S: Store>(
     ensures many { result ≡ reply.ManyVersions → refusal_of state.old ≡ Some reply.ManyVersions }
     ensures memory { result ≡ reply.Memory → Rests S.view state.old state.new }
 
-    ensures schemas { state.new.contents.schema ≡ state.old.contents.schema }
+    ensures contents { state.new.contents.schema ≡ state.old.contents.schema }
     ensures published { (v : ℕ) → result ≡ reply.Published v
         → (v ≡ current_number state.old.contents + 1) × (current_number state.new.contents ≡ v) }
-    ensures contents { published_in result ≡ None → state.new.contents ≡ state.old.contents }
+    ensures same { published_in result ≡ None → state.new.contents ≡ state.old.contents }
     ensures number { (n : ℕ) → result ≡ reply.StoreFault n → n ≡ faults_of S.view state.new }
     ensures counted { faults_of S.view state.new
         ≡ min (faults_of S.view state.old + told_by_reply result) (2 ^ 64 - 1) }
     ensures faults { RoseBy (told_by_reply result) (faults_of S.view state.old) (faults_of S.view state.new) }
 
-    // No segment's reader reads.
-    ensures reads { (more : List (ℕ × ℕ)) × (reads_of state.new.segments ≡ reads_of state.old.segments ++ more) }
+    // No segment's reader reads, and those of new files have read nothing.
+    ensures reads { (more : List (ℕ × ℕ)) × (reads_of state.new.segments ≡ reads_of state.old.segments ++ more)
+        × AllByRecursion (λ p. p.1 ≡ 0) more }
+
+    // An honest store stays honest, and one that tells still tells, also where it failed.
+    ensures honest { (S.view state.new.store).is_honest ≡ (S.view state.old.store).is_honest }
+    ensures told { is_some (S.view state.new.store).seen ≡ is_some (S.view state.old.store).seen }
 
     ensures spent { prepared.new.spent ≡ uses_up result }
     ensures kept { uses_up result ≡ false → prepared.new ≡ prepared.old }
