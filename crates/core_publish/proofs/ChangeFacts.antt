@@ -46,54 +46,7 @@ use Rattle.core_publish.specs.Publication.{entry_from, placed_from, written_file
 use Rattle.core_publish.specs.Publishing.{IsFrom, IsWrongIndex, entry_back, placed_back, stored_places}
 use Rattle.core_publish.proofs.EntryFacts.{entries-are-moves, length-files, prepared-is-ready}
 use Rattle.core_publish.proofs.SettleFacts.{short-keys}
-
-abbrev Key : Type 0
-Key = List Value
-
-nothing : {X : Type 0} → false ≡ true → X
-nothing e = absurd (cc e)
-
--- ---- its keys
-
-touched-fits : (s : Layout) (ops : List Op) → All (λ op. IsShortKey s (key_named op)) ops → (k : Key) → is_among (touches ops) k ≡ true → fits_key s k ≡ true
-touched-fits s [] short k e = nothing e
-touched-fits s (op ∷ ops) short k e =
-    elim (or_cases (eq_by_cmp key_cmp k (key_named op)) (is_among (touches ops) k) e) [
-      | inl h ↦ subst (λ (j : Key). fits_key s j ≡ true) (sym (tells_apart key_exact k (key_named op) h)) (short 0 op (omega arith)).fits
-      | inr h ↦ touched-fits s ops (λ i d lt. short (suc i) d (omega arith)) k h
-    ]
-
-each-key : (P : Key → Type 0) (keys : List Key) → ((k : Key) → is_among keys k ≡ true → P k) → AllByRecursion P keys
-each-key P [] f = tt
-each-key P (k ∷ keys) f = (
-  f k (or_left (eq_by_cmp key_cmp k k) (is_among keys k) (ap is_eq (tied_itself key_total k))),
-  each-key P keys (λ j e. f j (or_right (eq_by_cmp key_cmp j k) (is_among keys j) e)),
-)
-
-abbrev KeysFit : Layout → List Key → Type 0
-KeysFit s keys = AllByRecursion (λ k. fits_key s k ≡ true) keys
-
-keys-fit : (s : Layout) (load : Load) (files : List NewSegment) (entries : List CodeMove) (p : IsPrepared s load files entries) → KeysFit s p.moves.keys
-keys-fit s load files entries p =
-    each-key (λ k. fits_key s k ≡ true) p.moves.keys
-    (λ k e. touched-fits s load.ops (short-keys s load load.ops refl p.lawful) k (sym (p.moves.touched k) ∙ e))
-
-moves-fit : (s : Layout) (first : ℕ) (files : List (List (List Value))) (keys : List Key) → KeysFit s keys → AllByRecursion (λ c. fits_key s c.key ≡ true) (moves_to s first files keys)
-moves-fit s first files [] h = tt
-moves-fit s first files (k ∷ keys) h = (h.0, moves-fit s first files keys h.1)
-
--- what is stored at their codes is where the index has them
-stored-found : (s : Layout) (codes : CodeMap) (first : ℕ) (files : List (List (List Value))) (keys : List Key) → KeysFit s keys
-    → stored_places codes (code_moves (key_code s) (moves_to s first files keys)) ≡ places_of (by_code (fits_key s) (key_code s) (get codes)) keys
-stored-found s codes first files [] h = refl
-stored-found s codes first files (k ∷ keys) h =
-    let at : get codes (key_code s k) ≡ cond (fits_key s k) (get codes (key_code s k)) None = sym (ap (λ (t : Truth). cond t (get codes (key_code s k)) None) h.0) in
-    λ i. option_to_list (at i) ++ stored-found s codes first files keys h.1 i
-
-pub found-places : (s : Layout) (load : Load) (files : List NewSegment) (entries : List CodeMove) (codes : CodeMap) (p : IsPrepared s load files entries)
-    → stored_places codes entries ≡ places_of (by_code (fits_key s) (key_code s) (get codes)) p.moves.keys
-found-places s load files entries codes p =
-    ap (stored_places codes) p.moves.are ∙ stored-found s codes 0 (written_files s load) p.moves.keys (keys-fit s load files entries p)
+use Rattle.core_publish.proofs.KeyFacts.{as-many, comes, dies-still, keys-fit, marked-none, moves-fit, nothing, one-dead}
 
 -- ---- its files
 
@@ -122,12 +75,6 @@ known-all s [] (m ∷ made) lawful are = absurd are
 known-all s (rows ∷ files) [] lawful are = absurd are
 known-all s (rows ∷ files) (m ∷ made) lawful are = (made-of s rows m lawful are.0 are.1 are.2, known-all s files made lawful are.3)
 
-as-many : (s : Layout) (files : List (List (List Value))) (made : List NewSegment) → AreSealedOf s files made → length made ≡ length files
-as-many s [] [] are = refl
-as-many s [] (m ∷ made) are = absurd are
-as-many s (rows ∷ files) [] are = absurd are
-as-many s (rows ∷ files) (m ∷ made) are = ap suc (as-many s files made are.3)
-
 pub known : (s : Layout) (load : Load) (files : List NewSegment) (entries : List CodeMove) → schema_fault s.columns s.keys ≡ None → IsPrepared s load files entries → AllByRecursion (IsMadeOf s) files
 known s load files entries lawful p = known-all s (written_files s load) files lawful p.sealed
 
@@ -135,26 +82,6 @@ pub four-files : (s : Layout) (load : Load) (files : List NewSegment) (entries :
 four-files s load files entries p =
     let rows = values (after s load empty) in
     omega (arith, as-many s (written_files s load) files p.sealed, length-files ((length rows + 65535) / 65536) rows, p.few)
-
--- the first row of the first file, if there is one
-comes : (s : Layout) (first : ℕ) (files : List (List (List Value))) (made : List NewSegment) → AreSealedOf s files made → ComeWithRow (fresh first files) [] (map all_live (numbered first files))
-comes s first [] made are = inl refl
-comes s first (rows ∷ files) [] are = absurd are
-comes s first ([] ∷ files) (m ∷ made) are = absurd (let some = are.0.some in omega (arith, some))
-comes s first ((row ∷ rows) ∷ files) (m ∷ made) are =
-    let e = eq-eqb first first refl in
-    let p : Place = record { segment = first; row = 0 } in
-    let here : with_files first ((row ∷ rows) ∷ files) (λ n. []) first ≡ row ∷ rows = ap (λ (t : Truth). cond t (row ∷ rows) (with_files (first + 1) files (λ n. []) first)) e in
-    inr (
-      p,
-      row,
-      ap (λ (t : Truth). cond t (slice_get (with_files first ((row ∷ rows) ∷ files) (λ n. []) first) 0) (live (fresh first ((row ∷ rows) ∷ files)) (marked [] (map all_live (numbered (first + 1) files))) p)) e
-      ∙ ap (λ (file : List (List Value)). slice_get file 0) here,
-    )
-
-marked-none : (parts : List Part) → marked [] parts ≡ parts
-marked-none [] = refl
-marked-none (part ∷ parts) = ap (λ (ps : List Part). part ∷ ps) (marked-none parts)
 
 -- ---- the change
 
@@ -193,52 +120,7 @@ rows-of-book u area end c b reads has =
     let image = reads has.journal.settled.honest in
     held_rows_fit c.schema has.stored (standing_of c has.kept) (index_of c) (begun_of c) b image.0 has.holds (has.files image.0 image.2)
 
--- ---- numbered from elsewhere, and back
-
-back-place : (first : ℕ) (o : Option Place) → placed_back first (placed_from first o) ≡ o
-back-place first None = refl
-back-place first (Some p) = let e : p.segment + first - first ≡ p.segment = omega arith in λ i. Some (record { segment = e i; row = p.row })
-
-pub back-again : (first : ℕ) (entries : List CodeMove) → map (entry_back first) (map (entry_from first) entries) ≡ entries
-back-again first [] = refl
-back-again first (e ∷ es) = λ i. (e.0, back-place first e.1 i) ∷ back-again first es i
-
-from-place : (first : ℕ) (o : Option Place) → IsFrom first (placed_from first o)
-from-place first None = tt
-from-place first (Some p) = omega arith
-
-pub all-from : (first : ℕ) (entries : List CodeMove) → AllByRecursion (λ e. IsFrom first e.1) (map (entry_from first) entries)
-all-from first [] = tt
-all-from first (e ∷ es) = (from-place first e.1, all-from first es)
-
 -- ---- rows that aren't live
-
-lives-more : (xs ys : List ListedFile) (n r : ℕ) → row_lives (file_numbered n xs) r ≡ true → row_lives (file_numbered n (xs ++ ys)) r ≡ true
-lives-more [] ys n r h = nothing h
-lives-more (f ∷ xs) ys n r h = go (f.file == n) h (lives-more xs ys n r)
-  where
-    go : (t : Truth) → row_lives (cond t (Some f) (file_numbered n xs)) r ≡ true → (row_lives (file_numbered n xs) r ≡ true → row_lives (file_numbered n (xs ++ ys)) r ≡ true)
-        → row_lives (cond t (Some f) (file_numbered n (xs ++ ys))) r ≡ true
-    go true e more = e
-    go false e more = more e
-
--- a row that can die in a version can die in the next one
-dies-still : (files : List NewFile) (current : List ListedRowset) (p : Place) → can_die current p ≡ true → can_die (published_rowsets files current) p ≡ true
-dies-still files current p h =
-    let both = and_parts (nat_lt p.row 65536) (row_lives (file_numbered p.segment (listed_files current)) p.row) h in
-    and_from (nat_lt p.row 65536) (row_lives (file_numbered p.segment (listed_files (published_rowsets files current))) p.row) both.0
-    (ap (λ (fs : List ListedFile). row_lives (file_numbered p.segment fs) p.row) (sym (published_files files current)) ∙ lives-more (listed_files current) (map whole_file files) p.segment p.row both.1)
-
-one-dead : (f : Place → Truth) (ps : List Place) → list_all f ps ≡ false → (p : Place) × (stands_in ps p ≡ true) × (f p ≡ false)
-one-dead f [] h = absurd (cc h)
-one-dead f (p ∷ ps) h = go (f p) refl h
-  where
-    here : stands_in (p ∷ ps) p ≡ true
-    here = or_left (same_place p p) (stands_in ps p) (λ i. eq-eqb p.segment p.segment refl i && eq-eqb p.row p.row refl i)
-
-    go : (t : Truth) → f p ≡ t → (t && list_all f ps) ≡ false → (q : Place) × (stands_in (p ∷ ps) q ≡ true) × (f q ≡ false)
-    go false e h = (p, here, e)
-    go true e h = let later = one-dead f ps h in (later.0, or_right (same_place later.0 p) (stands_in ps later.0) later.1, later.2)
 
 -- a refusal of the places that an index has tells a row that isn't live
 pub wrong-row : (c : Contents) (entries : List CodeMove) (files : List NewFile) (dead : List Place) → HaveSame dead (stored_places c.codes entries)

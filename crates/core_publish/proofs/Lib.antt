@@ -8,5 +8,6 @@ pub mod SettleFacts
 pub mod EntryFacts
 pub mod LoopFacts
 pub mod OldPlaces
+pub mod KeyFacts
 pub mod ChangeFacts
 pub mod TurnFacts

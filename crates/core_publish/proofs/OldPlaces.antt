@@ -1,5 +1,5 @@
 -- Sorted places rise, or one of them stands twice; and an exact index has no place twice.
-use Rattle.std.proofs.Common.{◌≡◌, refl, ap, sym, subst, ◌∙◌, inl, inr, ⊎_elim, ℕ, zero, suc, ◌+◌, ◌<◌, ◌≤◌, List, [], ◌∷◌, ◌++◌, length, get_or, Option, Some, None, Bool as Truth, true, false, ◌||◌, ◌&&◌, ◌==◌, nat_lt, cond, arith, add-one}
+use Rattle.std.proofs.Common.{◌≡◌, refl, ap, sym, subst, ◌∙◌, ◌⊎◌, inl, inr, ℕ, zero, suc, ◌+◌, ◌<◌, ◌≤◌, List, [], ◌∷◌, ◌++◌, length, get_or, Option, Some, None, Bool as Truth, true, false, ◌||◌, ◌&&◌, ◌==◌, nat_lt, cond, arith, add-one}
 use Rattle.std.specs.Prelude.{IsPermutation, IsTrue, count_by, option_to_list}
 use Rattle.std.specs.List.{AllByRecursion}
 use Rattle.std.specs.Ordering.{eq_by_cmp, is_lt, nat_cmp, ordering_then}
@@ -114,10 +114,14 @@ times-twice p (q ∷ r ∷ ps) (suc k) d lt a b =
 same_itself : (p q : Place) → p.segment ≡ q.segment → p.row ≡ q.row → same_place p q ≡ true
 same_itself p q e f = λ i. eq-eqb q.segment p.segment (sym e) i && eq-eqb q.row p.row (sym f) i
 
+-- some place isn't below the next one
+abbrev pub NotRising : List Place → Type 0
+NotRising ys = (k : ℕ) × (k + 1 < length ys) × ((d : Place) → false ≡ is_below (get_or ys k d) (get_or ys (k + 1) d))
+
 -- sorted places that don't rise have one twice
 pub twice : (xs ys : List Place) → IsPermutation xs ys
     → ((k : ℕ) (d : Place) → 0 ≤ k → k + 1 < length ys → is_lt (ordering_then (nat_cmp (get_or ys (k + 1) d).segment (get_or ys k d).segment) (nat_cmp (get_or ys (k + 1) d).row (get_or ys k d).row)) ≡ false)
-    → (k : ℕ) × (k + 1 < length ys) × ((d : Place) → false ≡ is_below (get_or ys k d) (get_or ys (k + 1) d)) → StandsTwice xs
+    → NotRising ys → StandsTwice xs
 twice [] ys moved sorted at = at_none (sorted_none ys moved) at.1
   where
     sorted_none : (ys : List Place) → IsPermutation [] ys → length ys ≡ 0

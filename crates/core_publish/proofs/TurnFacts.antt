@@ -1,5 +1,6 @@
 -- Publishing is a step of the book that a state has.
-use Rattle.std.proofs.Common.{◌≡◌, refl, ap, sym, subst, ◌∙◌, ℕ, ◌+◌, ◌-◌, ◌^◌, ◌≤◌, length, min, Option, Some, None, Bool as Truth, true, false, ◌==◌, arith}
+use Rattle.std.proofs.Common.{◌≡◌, refl, ap, sym, subst, ◌∙◌, ℕ, ◌+◌, ◌-◌, ◌^◌, ◌≤◌, List, [], ◌∷◌, length, map, min, Option, Some, None, is_some, Bool as Truth, true, false, ◌==◌, arith}
+use Rattle.std.specs.List.{AllByRecursion}
 use Rattle.dev_traits.specs.Causes.{RoseBy}
 use Rattle.dev_traits.specs.View.{Calm, View}
 use Rattle.dev_traits.specs.declared.faults.Damaged.{Damaged}
@@ -12,6 +13,7 @@ use Rattle.pk_model.specs.declared.calls.Reply.{Reply}
 use Rattle.pk_model.specs.declared.calls.Reply.TheVariants as reply
 use Rattle.pk_model.specs.Books.{is_full}
 use Rattle.tablet_state.specs.Contents.{Contents, index_of, worn_of}
+use Rattle.tablet_state.specs.Readies.{NewSegment}
 use Rattle.tablet_state.specs.Turns.{StandsEither}
 use Rattle.tablet_state.specs.State.{Has, Shown, StandsThroughout, Steps, refusal, refusal_of}
 use Rattle.tablet_state.proofs.Publishing.{older_is}
@@ -160,3 +162,20 @@ counts_none total before now r is same none = omega (arith, is, same, none)
 
 pub rose : (least before now : ℕ) → now ≡ min (before + least) (2 ^ 64 - 1) → RoseBy least before now
 rose least before now e = subst (λ (n : ℕ). min (before + least) (2 ^ 64 - 1) ≤ n) (sym e) (omega arith)
+
+-- ---- a state that takes the load
+
+pub not_refused : {X S : Type 0} (st : Shown S) (r : Reply) → refusal_of st ≡ None → refusal_of st ≡ Some r → X
+not_refused st r goes_ is = none_some (sym goes_ ∙ is)
+
+pub open_tells : (closed : Option ℕ) (r : Reply) → closed ≡ None → TellsShut None r → TellsShut closed r
+open_tells closed r open_ h = subst (λ (o : Option ℕ). TellsShut o r) (sym open_) h
+
+pub open_shut : (closed : Option ℕ) (seq : ℕ) (r : Reply) → closed ≡ None → shut_after None seq r ≡ shut_after closed seq r
+open_shut closed seq r open_ = ap (λ (o : Option ℕ). shut_after o seq r) (sym open_)
+
+-- ---- new files
+
+pub all-tell : {M : Type 0} (see : M → NewSegment) (ms : List M) → ((m : M) → is_some (see m).0 ≡ true) → AllByRecursion (λ f. is_some f.0 ≡ true) (map see ms)
+all-tell see [] tell = tt
+all-tell see (m ∷ ms) tell = (tell m, all-tell see ms tell)

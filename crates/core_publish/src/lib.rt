@@ -7,10 +7,10 @@ mod laws;
 mod lines;
 mod places;
 mod prepared;
-mod publish;
+mod publishing;
 mod ready;
 mod results;
 
 pub use laws::prepared_loads;
 pub use prepared::{Prepared, prepare};
-pub use publish::publish;
+pub use publishing::publish;

@@ -53,6 +53,8 @@ pub fn ready_of<S: Store>(
     ensures kept { IsErrOf result fault.Memory → prepared.new ≡ prepared.old }
     ensures lost { IsErrOf result fault.Index → prepared.new ≡ emptied prepared.old }
 {
+    // No schema has a fault.
+    let _columns = state.schema().columns();
     let first = state.next_file();
     let dead = match old_places(alloc, state, prepared.entries()) {
         Ok(dead) => dead,
