@@ -216,7 +216,7 @@ module _ (u : View) (area end : ℕ) (c : Contents) (segs : List SegmentView) (b
   dies p there =
       ap (λ (fs : List ListedFile). lives_in fs p) (sym (published_files told c.current))
       ∙ elim (or_cases (stands_in (places_of (index_of c) is.publication.looked_up) p) (stands_in is.publication.stale p)
-          (sym (list_any-append (same_place p) (places_of (index_of c) is.publication.looked_up) is.publication.stale) ∙ sym (is.publication.found p) ∙ there)) [
+      (sym (list_any-append (same_place p) (places_of (index_of c) is.publication.looked_up) is.publication.stale) ∙ sym (is.publication.found p) ∙ there)) [
         | inl e ↦ (let k = key_told (index_of c) is.publication.looked_up p e in old_lives p k.0 k.1)
         | inr e ↦ (let row = is.publication.of_rows p e in new_lives p row.0 row.1)
       ]

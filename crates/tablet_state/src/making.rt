@@ -28,7 +28,8 @@ impl<S: Store> State<S> {
         requires goes { refusal_of self.old ≡ None }
         requires few { vec_len change.files < 2 ^ 32 }
         requires rise { PlacesRise change.dead.items }
-        requires known { AllByRecursion (IsMadeOf self.old.contents.schema) (map (λ m. (S.Maker.sealed_bytes m.sealed, m.footer)) change.files.items) }
+        requires known { AllByRecursion (IsMadeOf self.old.contents.schema)
+            (map (λ m. (S.Maker.sealed_bytes m.sealed, m.footer)) change.files.items) }
         ensures made { IfOk result (λ ready. IsMade (S.view self.new.store) self.new.contents self.new.room
             (map (λ m. (S.Maker.sealed_bytes m.sealed, m.footer)) ready.change.files.items) ready.change.dead.items ready.change.index.items ready.body ready.current) }
         ensures change { IfOk result (λ ready. ready.change ≡ change) }

@@ -28,7 +28,8 @@ impl<S: Store> State<S> {
         ensures refused { result ≡ refusal_of self.now }
 
         // Such a reply is a step of the book that the state has.
-        ensures step { IfSome result (λ r. (b : Book) (seq : ℕ) (load : Load) → Has S.view self.now b → Steps S.view self.now b seq (call.Load load) r) }
+        ensures step { IfSome result (λ r. (b : Book) (seq : ℕ) (load : Load) → Has S.view self.now b
+            → Steps S.view self.now b seq (call.Load load) r) }
     {
         match self.closed {
             Some(place) => return Some(Reply::Closed(place)),
@@ -89,7 +90,8 @@ impl<S: Store> State<S> {
         ensures any_moment { (b : Book) (load : Load) → Has S.view self.old b
             → IsChangeOf self.old.contents.schema (index_of self.old.contents) b load self.old.contents.next_file
             (map (λ m. (S.Maker.sealed_bytes m.sealed, m.footer)) ready.change.files.items) ready.change.dead.items ready.change.index.items
-            → StandsThroughout self.old.contents.schema b seq (call.Load load) (S.view self.old.store) (S.view self.new.store) }
+            → StandsThroughout self.old.contents.schema b seq (call.Load load) (S.view self.old.store)
+            (S.view self.new.store) }
 
         ensures version { IfOk result (λ v. v ≡ current_number self.old.contents + 1) }
         ensures only { IfErr result (λ r. r ≡ reply.StoreFault (faults_of S.view self.new)) }
