@@ -1,5 +1,5 @@
 -- A prepared load is the change of its load over a book.
-use Rattle.std.proofs.Common.{◌≡◌, refl, ap, sym, subst, ◌∙◌, inl, inr, ℕ, suc, ◌+◌, ◌-◌, ◌<◌, ◌≤◌, List, [], ◌∷◌, ◌++◌, map, length, Option, Some, None, Bool as Truth, true, false, ◌||◌, ◌&&◌, ◌==◌, nat_lt, cond, arith, is_some, slice_get, append-nil}
+use Rattle.std.proofs.Common.{◌≡◌, refl, ap, sym, subst, ◌∙◌, inl, inr, ℕ, suc, ◌+◌, ◌-◌, ◌/◌, ◌<◌, ◌≤◌, List, [], ◌∷◌, ◌++◌, map, length, Option, Some, None, Bool as Truth, true, false, ◌||◌, ◌&&◌, ◌==◌, nat_lt, cond, arith, is_some, slice_get, append-nil}
 use Rattle.std.specs.Prelude.{All, IsTrue, option_to_list}
 use Rattle.std.specs.List.{AllByRecursion, list_all}
 use Rattle.std.specs.Cmp.{tied_itself}
@@ -38,15 +38,15 @@ use Rattle.kept_versions.specs.Files.{can_die, row_lives}
 use Rattle.kept_versions.proofs.ChangeFacts.{published_files}
 use Rattle.tablet_state.specs.Contents.{Contents, begun_of, index_of, standing_of}
 use Rattle.tablet_state.specs.Readies.{AreSealed, IsChangeOf, IsMadeOf, NewSegment}
-use Rattle.tablet_state.specs.State.{HasStore}
+use Rattle.tablet_state.specs.State.{Has, HasStore, Shown}
 use Rattle.tablet_state.proofs.RowFacts.{held_rows_fit}
 use Rattle.core_publish.specs.Lines.{IsShortKey}
 use Rattle.core_publish.specs.Prepared.{AreSealedOf, IsPrepared, files_from, files_of, fresh, moves_to, place_in}
 use Rattle.core_publish.specs.Publication.{entry_from, placed_from, written_files}
-use Rattle.core_publish.specs.Publishing.{IsFrom, IsWrongIndex, entry_back, placed_back, stored_places}
+use Rattle.core_publish.specs.Publishing.{IsWrongIndex, StandsTwice, stored_places}
 use Rattle.core_publish.proofs.EntryFacts.{entries-are-moves, length-files, prepared-is-ready}
-use Rattle.core_publish.proofs.SettleFacts.{short-keys}
-use Rattle.core_publish.proofs.KeyFacts.{as-many, comes, dies-still, keys-fit, marked-none, moves-fit, nothing, one-dead}
+use Rattle.core_publish.proofs.OldPlaces.{not_twice}
+use Rattle.core_publish.proofs.KeyFacts.{as-many, comes, dies-still, found-places, keys-fit, marked-none, moves-fit, nothing, one-dead}
 
 -- ---- its files
 
@@ -132,3 +132,30 @@ wrong-row c entries files dead same h =
     gone : (p : Place) → can_die (published_rowsets files c.current) p ≡ false → (t : Truth) → can_die c.current p ≡ t → can_die c.current p ≡ false
     gone p e false f = f
     gone p e true f = absurd (cc (sym (dies-still files c.current p f) ∙ e))
+
+-- ---- over a state that has a book
+
+abbrev pub Reads : View → Type 0
+Reads u = IsTrue u.is_honest → (image : Image) × (u.seen ≡ Some image) × u.may_leave image
+
+module _ {S : Type 0} (view : S → View) (st : Shown S) (b : Book) (h : Has view st b) (open_ : st.closed ≡ None)
+    (load : Load) (files : List NewSegment) (entries : List CodeMove) (p : IsPrepared st.contents.schema load files entries) where
+  abbrev held : Contents
+  held = st.contents
+
+  book : HasStore (view st.store) st.area st.end held b
+  book = (h.opened open_).images
+
+  -- no two of its keys stand at one row
+  pub no_twice : StandsTwice (stored_places held.codes entries) → ⊥
+  no_twice two =
+      not_twice held.schema _ (index_of held) p.moves.keys book.holds.holds.exact p.moves.rise
+      (subst StandsTwice (found-places held.schema load files entries held.codes p) two)
+
+  pub change_of : Reads (view st.store) → (is_some (view st.store).seen ≡ true → AllByRecursion (λ m. is_some m.0 ≡ true) files) → (dead : List Place) (moved : List CodeMove) → moved ≡ map (entry_from held.next_file) entries
+      → HaveSame dead (stored_places held.codes entries) → IsChangeOf held.schema (index_of held) b load held.next_file files dead moved
+  change_of reads tells dead moved same found =
+      let image = reads book.journal.settled.honest in
+      load-change held.schema load files entries p (index_of held) b held.next_file dead moved (tells (ap is_some image.1))
+      (rows-of-book (view st.store) st.area st.end held b reads book) same
+      (λ q. found q ∙ ap (λ (ps : List Place). stands_in ps q) (found-places held.schema load files entries held.codes p))

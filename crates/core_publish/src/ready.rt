@@ -1,4 +1,4 @@
-ghost use Rattle.std.specs.Prelude.{◌≡◌, ⊥, None, false, map, OnOk, IfOk, IfErr, IsErrOf};
+ghost use Rattle.std.specs.Prelude.{◌≡◌, None, false, map, OnOk, IfOk, IfErr, IsErrOf};
 ghost use Rattle.pk_model.specs.declared.books.Book.{Book};
 ghost use Rattle.tablet_state.specs.Contents.{index_of};
 ghost use Rattle.tablet_state.specs.State.{Has, Rests, faults_of, refusal_of};
