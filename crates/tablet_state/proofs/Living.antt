@@ -20,19 +20,22 @@ use Rattle.rowsets.specs.Indexing.{CodeMove, places_of}
 use Rattle.rowsets.proofs.LiveFacts.{live-named, same_place-exact, same_place-same, unnamed}
 use Rattle.journal_form.specs.declared.records.NewFile.{NewFile}
 use Rattle.journal_form.specs.declared.records.ListedFile.{ListedFile}
-use Rattle.journal_form.specs.Versions.{Rowset as ListedRowset, file_numbered, files_of, numbers_of, published_rowsets, whole_file}
+use Rattle.journal_form.specs.Versions.{Rowset as ListedRowset, file_numbered, files_of, published_rowsets, whole_file}
 use Rattle.kept_versions.specs.Files.{can_die, row_lives}
 use Rattle.kept_versions.proofs.ChangeFacts.{published_files}
 use Rattle.tablet_state.specs.Stands.{part_of, told_file}
 use Rattle.tablet_state.specs.Holding.{fresh, told_files}
 use Rattle.tablet_state.specs.Contents.{Contents, begun_of, index_of, standing_of, version_of}
-use Rattle.tablet_state.specs.State.{Footers, HasBook, HasOwn, IsAttached, IsInHand, IsReadAs, SegmentView, footer_at, footers_of, segment_of}
+use Rattle.tablet_state.specs.declared.ready.ReadyFault.{ReadyFault}
+use Rattle.tablet_state.specs.declared.ready.ReadyFault.TheVariants as fault
+use Rattle.tablet_state.specs.State.{Has, HasBook, HasOwn, IsAttached, IsInHand, IsReadAs, SegmentView, Shown, footer_at, footers_of, segment_of}
 use Rattle.tablet_state.specs.Readies.{AreSealed, IsChangeOf, NewSegment, new_files}
 use Rattle.tablet_state.proofs.VersionFacts.{parts, parts_are, whole_parts}
 use Rattle.tablet_state.proofs.FileFacts.{all-map}
 use Rattle.tablet_state.proofs.HoldFacts.{new, numbers_told}
 use Rattle.tablet_state.proofs.RowFacts.{files_of_last}
 use Rattle.tablet_state.proofs.Deeds.{told_same}
+use Rattle.tablet_state.proofs.Applying.{ChangeOf}
 
 some_one : {X : Type 0} (x y : X) → Some x ≡ Some y → x ≡ y
 some_one x y e = cc
@@ -225,3 +228,20 @@ module _ (u : View) (area end : ℕ) (c : Contents) (segs : List SegmentView) (b
   pub all_die : list_all (can_die (published_rowsets (new_files c.next_file made) c.current)) dead ≡ true
   all_die = subst (λ (fs : List NewFile). list_all (can_die (published_rowsets fs c.current)) dead ≡ true) (sym (told_same c.schema c.next_file is.files made is.sealed))
       (each_dies (published_rowsets told c.current) dead dies)
+
+-- ---- why a change isn't made ready
+
+only_memory : (e : ReadyFault) → (e ≡ fault.NotLive → ⊥) → e ≡ fault.Memory
+only_memory fault.Memory h = refl
+only_memory fault.NotLive h = absurd (h refl)
+
+-- a load's change is refused for want of memory alone
+pub wants_memory : (u : View) (area end : ℕ) (c : Contents) (segs : List SegmentView) (b : Book) (load : Load) (made : List NewSegment) (dead : List Place) (entries : List CodeMove)
+    → HasOwn c segs → HasBook u area end c segs b → IsChangeOf c.schema (index_of c) b load c.next_file made dead entries → (e : ReadyFault)
+    → (e ≡ fault.NotLive → list_all (can_die (published_rowsets (new_files c.next_file made) c.current)) dead ≡ false) → e ≡ fault.Memory
+wants_memory u area end c segs b load made dead entries own book is e refused =
+    only_memory e (λ not_live. not_so (sym (all_die u area end c segs b load made dead entries own book is) ∙ refused not_live))
+
+-- where a state is seen as x
+abbrev pub LiveOf : {S : Type 0} → (S → View) → List NewSegment → List Place → List CodeMove → Book → Load → ReadyFault → Shown S → Type 0
+LiveOf view made dead entries b load e x = Has view x b → ChangeOf x b load made dead entries → e ≡ fault.Memory
