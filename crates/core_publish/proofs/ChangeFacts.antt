@@ -159,3 +159,17 @@ module _ {S : Type 0} (view : S → View) (st : Shown S) (b : Book) (h : Has vie
       load-change held.schema load files entries p (index_of held) b held.next_file dead moved (tells (ap is_some image.1))
       (rows-of-book (view st.store) st.area st.end held b reads book) same
       (λ q. found q ∙ ap (λ (ps : List Place). stands_in ps q) (found-places held.schema load files entries held.codes p))
+
+all-tell : {M : Type 0} (see : M → NewSegment) (ms : List M) → ((m : M) → is_some (see m).0 ≡ true) → AllByRecursion (λ f. is_some f.0 ≡ true) (map see ms)
+all-tell see [] tell = tt
+all-tell see (m ∷ ms) tell = (tell m, all-tell see ms tell)
+
+-- what was taken out of a prepared load is its change, where a store that tells has files that tell
+pub taken_change : {S M : Type 0} (view : S → View) (see : M → NewSegment) (st : Shown S) (b : Book) → Has view st b → st.closed ≡ None → Reads (view st.store)
+    → (is_some (view st.store).seen ≡ true → (m : M) → is_some (see m).0 ≡ true) → (load : Load) (files : List NewSegment) (entries : List CodeMove) → IsPrepared st.contents.schema load files entries
+    → (ms : List M) → map see ms ≡ files → (first : ℕ) → first ≡ st.contents.next_file → (dead : List Place) → HaveSame dead (stored_places st.contents.codes entries) → (moved : List CodeMove) → moved ≡ map (entry_from first) entries
+    → IsChangeOf st.contents.schema (index_of st.contents) b load st.contents.next_file (map see ms) dead moved
+taken_change view see st b h open_ reads tell load files entries p ms are first at dead found moved same =
+    subst (λ (fs : List NewSegment). IsChangeOf st.contents.schema (index_of st.contents) b load st.contents.next_file fs dead moved) (sym are)
+    (change_of view st b h open_ load files entries p reads (λ seen. subst (AllByRecursion (λ f. is_some f.0 ≡ true)) are (all-tell see ms (tell seen))) dead moved
+    (same ∙ ap (λ (n : ℕ). map (entry_from n) entries) at) found)
