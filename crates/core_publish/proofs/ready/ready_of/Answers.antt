@@ -1,7 +1,6 @@
-use Rattle.std.proofs.Common.{◌≡◌, ◌∙◌, ap, sym, subst, List, None, false, map, length, ◌≤◌, Vec, arith}
+use Rattle.std.proofs.Common.{◌≡◌, ◌∙◌, ap, sym, subst, List, None, false, map, length, ◌≤◌, arith}
 use Rattle.std.specs.List.{AllByRecursion}
 use Rattle.std.proofs.lemmas.List.{length-map}
-use Rattle.index_level0.specs.declared.place.Place.{Place}
 use Rattle.pk_values.specs.Schemas.{Layout, schema_fault}
 use Rattle.rowsets.specs.Indexing.{CodeMove}
 use Rattle.rowsets.specs.Steps.{HaveSame}
@@ -108,7 +107,7 @@ returns-in-Ok-ready-clause-change g c b h =
     let first = c.next_file-first.result in
     let are : map see ch.files.items ≡ pre.files = c.take_change-change.ensures.files in
     let found : HaveSame ch.dead.items (stored_places st.contents.codes pre.entries) =
-    subst (λ (v : Vec Place). HaveSame v.items (stored_places st.contents.codes pre.entries)) (sym c.take_change-change.ensures.dead)
+    rw (c.take_change-change.ensures.dead)
     (subst (λ (es : List CodeMove). HaveSame c.in-Ok.dead.items (stored_places st.contents.codes es)) c.entries.ensures.entries c.in-Ok.ensures.found) in
     let is : IsChangeOf st.contents.schema (index_of st.contents) b pre.load st.contents.next_file (map see ch.files.items) ch.dead.items ch.index.items =
     taken_change g.S.Store.view see st b h open_ (g.met.S.Store.honest_reads st.store) (λ seen m. g.met.S.Store.sealed_tells st.store m.sealed seen)
@@ -149,7 +148,7 @@ returns-in-Err-default-NotLive-clause-wrong g c _ =
     let first = c.next_file-first.result in
     let are : map see ch.files.items ≡ pre.files = c.take_change-change.ensures.files in
     let found : HaveSame ch.dead.items (stored_places st.contents.codes pre.entries) =
-    subst (λ (v : Vec Place). HaveSame v.items (stored_places st.contents.codes pre.entries)) (sym c.take_change-change.ensures.dead)
+    rw (c.take_change-change.ensures.dead)
     (subst (λ (es : List CodeMove). HaveSame c.in-Ok.dead.items (stored_places st.contents.codes es)) c.entries.ensures.entries c.in-Ok.ensures.found) in
     wrong-row st.contents pre.entries _ ch.dead.items found (c.in-Err-default-NotLive.ensures.not_live c.in-Err-default-NotLive.field-0-1-is)
 
@@ -165,7 +164,7 @@ returns-in-Err-default-NotLive-clause-intact g c b h =
     let first = c.next_file-first.result in
     let are : map see ch.files.items ≡ pre.files = c.take_change-change.ensures.files in
     let found : HaveSame ch.dead.items (stored_places st.contents.codes pre.entries) =
-    subst (λ (v : Vec Place). HaveSame v.items (stored_places st.contents.codes pre.entries)) (sym c.take_change-change.ensures.dead)
+    rw (c.take_change-change.ensures.dead)
     (subst (λ (es : List CodeMove). HaveSame c.in-Ok.dead.items (stored_places st.contents.codes es)) c.entries.ensures.entries c.in-Ok.ensures.found) in
     let is : IsChangeOf st.contents.schema (index_of st.contents) b pre.load st.contents.next_file (map see ch.files.items) ch.dead.items ch.index.items =
     taken_change g.S.Store.view see st b h open_ (g.met.S.Store.honest_reads st.store) (λ seen m. g.met.S.Store.sealed_tells st.store m.sealed seen)
