@@ -33,17 +33,18 @@ use Rattle.rowsets.specs.Indexing.{CodeMap, CodeMove, by_code, code_moves, place
 use Rattle.rowsets.specs.Steps.{HaveSame, IsReady}
 use Rattle.journal_form.specs.declared.records.ListedFile.{ListedFile}
 use Rattle.journal_form.specs.declared.records.NewFile.{NewFile}
+use Rattle.journal_form.specs.declared.records.Record.TheVariants.{Publish}
 use Rattle.journal_form.specs.Versions.{Rowset as ListedRowset, file_numbered, files_of as listed_files, published_rowsets, whole_file}
 use Rattle.kept_versions.specs.Files.{can_die, row_lives}
 use Rattle.kept_versions.proofs.ChangeFacts.{published_files}
 use Rattle.tablet_state.specs.Contents.{Contents, begun_of, index_of, standing_of}
-use Rattle.tablet_state.specs.Readies.{AreSealed, IsChangeOf, IsMadeOf, NewSegment}
+use Rattle.tablet_state.specs.Readies.{AreSealed, IsChangeOf, IsLed, IsMadeOf, Leads, NewSegment, new_files, next_contents}
 use Rattle.tablet_state.specs.State.{Has, HasStore, Shown}
 use Rattle.tablet_state.proofs.RowFacts.{held_rows_fit}
 use Rattle.core_publish.specs.Lines.{IsShortKey}
 use Rattle.core_publish.specs.Prepared.{AreSealedOf, IsPrepared, files_from, files_of, fresh, moves_to, place_in}
 use Rattle.core_publish.specs.Publication.{entry_from, placed_from, written_files}
-use Rattle.core_publish.specs.Publishing.{IsWrongIndex, StandsTwice, stored_places}
+use Rattle.core_publish.specs.Publishing.{IsHeldNext, IsTaken, IsWrongIndex, StandsTwice, stored_places}
 use Rattle.core_publish.proofs.EntryFacts.{entries-are-moves, length-files, prepared-is-ready}
 use Rattle.core_publish.proofs.OldPlaces.{not_twice}
 use Rattle.core_publish.proofs.KeyFacts.{as-many, comes, dies-still, found-places, keys-fit, marked-none, moves-fit, nothing, one-dead}
@@ -173,3 +174,24 @@ taken_change view see st b h open_ reads tell load files entries p ms are first 
     subst (λ (fs : List NewSegment). IsChangeOf st.contents.schema (index_of st.contents) b load st.contents.next_file fs dead moved) (sym are)
     (change_of view st b h open_ load files entries p reads (λ seen. subst (AllByRecursion (λ f. is_some f.0 ≡ true)) are (all-tell see ms (tell seen))) dead moved
     (same ∙ ap (λ (n : ℕ). map (entry_from n) entries) at) found)
+
+-- ---- what is held next
+
+pub held_next : (c : Contents) (files made : List NewSegment) (entries moved : List CodeMove) (dead : List Place) (body : List ℕ) (current : List ListedRowset) (count : ℕ) (next : Contents)
+    → IsTaken c files entries made dead moved → IsLed c (new_files c.next_file made) dead body (next_contents (length made) current moved c) → count ≡ length made → next ≡ next_contents count current moved c
+    → IsHeldNext c files entries next
+held_next c files made entries moved dead body current count next t led many is =
+    let made_next : next_contents (length made) current moved c ≡ next = ap (λ (n : ℕ). next_contents n current moved c) (sym many) ∙ sym is in
+    let as_files : count ≡ length files = many ∙ ap length t.files_are in
+    record {
+      current = current;
+      body = body;
+      next_is = is ∙ (λ i. next_contents (as_files i) current (t.moved_are i) c);
+      led = record {
+        version = led.version;
+        changed = led.changed;
+        leads = subst (λ (fs : List NewSegment). Leads c next body (Publish led.version (new_files c.next_file fs) led.changed)) t.files_are
+            (subst (λ (n : Contents). Leads c n body (Publish led.version (new_files c.next_file made) led.changed)) made_next led.leads);
+        same = λ p. led.same p ∙ t.found p;
+      };
+    }

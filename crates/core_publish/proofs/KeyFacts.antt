@@ -115,7 +115,7 @@ comes s first ((row ∷ rows) ∷ files) (m ∷ made) are =
       p,
       row,
       ap (λ (t : Truth). cond t (slice_get (with_files first ((row ∷ rows) ∷ files) (λ n. []) first) 0) (live (fresh first ((row ∷ rows) ∷ files)) (marked [] (map all_live (numbered (first + 1) files))) p)) e
-      ∙ ap (λ (file : List (List Value)). slice_get file 0) here,
+          ∙ ap (λ (file : List (List Value)). slice_get file 0) here,
     )
 
 pub marked-none : (parts : List Part) → marked [] parts ≡ parts
@@ -168,4 +168,3 @@ one-dead f (p ∷ ps) h = go (f p) refl h (one-dead f ps)
     go : (t : Truth) → f p ≡ t → (t && list_all f ps) ≡ false → (list_all f ps ≡ false → (q : Place) × (stands_in ps q ≡ true) × (f q ≡ false)) → (q : Place) × (stands_in (p ∷ ps) q ≡ true) × (f q ≡ false)
     go false e h more = (p, here, e)
     go true e h more = let later = more h in (later.0, or_right (same_place later.0 p) (stands_in ps later.0) later.1, later.2)
-

@@ -1,5 +1,5 @@
 -- What publishing does with the entries of a prepared load, and which replies it gives.
-use Rattle.std.specs.Prelude.{◌≡◌, ◌⊎◌, ℕ, ◌-◌, ◌==◌, ◌≤◌, ⊤, List, [], ◌∷◌, ◌++◌, Option, Some, None, Bool as Truth, true, false, ◌||◌, ◌&&◌, nat_lt, option_to_list, count_by}
+use Rattle.std.specs.Prelude.{◌≡◌, ◌⊎◌, ℕ, ◌-◌, ◌==◌, ◌≤◌, ⊤, List, [], ◌∷◌, ◌++◌, map, length, Option, Some, None, Bool as Truth, true, false, ◌||◌, ◌&&◌, nat_lt, option_to_list, count_by}
 use Rattle.std.specs.FinMap.{get}
 use Rattle.dev_traits.specs.declared.faults.Damaged.{Damaged}
 use Rattle.dev_traits.specs.declared.faults.Part.TheVariants as part
@@ -10,7 +10,11 @@ use Rattle.pk_model.specs.declared.calls.Reply.TheVariants as reply
 use Rattle.rowsets.specs.Indexing.{CodeMap, CodeMove}
 use Rattle.rowsets.specs.Marks.{same_place, stands_in}
 use Rattle.kept_versions.specs.Files.{can_die}
+use Rattle.rowsets.specs.Steps.{HaveSame}
+use Rattle.journal_form.specs.Versions.{Rowset as ListedRowset}
 use Rattle.tablet_state.specs.Contents.{Contents}
+use Rattle.tablet_state.specs.Readies.{IsLed, NewSegment, new_files, next_contents}
+use Rattle.core_publish.specs.Publication.{entry_from}
 use Rattle.core_publish.specs.Prepared.{PreparedView}
 
 -- the places that are stored at the codes of entries
@@ -26,6 +30,21 @@ StandsTwice places = (p : Place) × (2 ≤ count_by (same_place p) places)
 abbrev pub IsWrongIndex : Contents → List CodeMove → Type 0
 IsWrongIndex c entries = StandsTwice (stored_places c.codes entries)
     ⊎ ((p : Place) × (stands_in (stored_places c.codes entries) p ≡ true) × (can_die c.current p ≡ false))
+
+-- What was taken out of a prepared load for a change of what is held: its files; the rows at which the index has its keys; and its entries, whose
+-- files are numbered from the next file number on.
+pub record IsTaken (c : Contents) (files : List NewSegment) (entries : List CodeMove) (made : List NewSegment) (dead : List Place) (moved : List CodeMove) : Type 0 where
+  pub files_are : made ≡ files
+  pub moved_are : moved ≡ map (entry_from c.next_file) entries
+  pub found : HaveSame dead (stored_places c.codes entries)
+
+-- What is held next, over every store: a record leads there that tells these files, and as dead the rows at which the index has the keys of these
+-- entries; and the index has the entries.
+pub record IsHeldNext (c : Contents) (files : List NewSegment) (entries : List CodeMove) (next : Contents) : Type 0 where
+  pub current : List ListedRowset
+  pub body : List ℕ
+  pub next_is : next ≡ next_contents (length files) current (map (entry_from c.next_file) entries) c
+  pub led : IsLed c (new_files c.next_file files) (stored_places c.codes entries) body next
 
 -- the damage that it is
 abbrev pub index_damage : Damaged

@@ -57,8 +57,10 @@ pub fn old_places<S: Store>(
     entries: &[(KeyBytes, Option<Place>)],
 ) -> Result<Vec<Place>, PlacesFault>
     ensures rise { IfOk result (λ places. PlacesRise places.items) }
-    ensures found { IfOk result (λ places. HaveSame places.items (stored_places state.now.contents.codes entries.now)) }
-    ensures twice { IfErr result (λ e. e ≡ fault.Twice → StandsTwice (stored_places state.now.contents.codes entries.now)) }
+    ensures found { IfOk result (λ places. HaveSame places.items
+        (stored_places state.now.contents.codes entries.now)) }
+    ensures twice { IfErr result (λ e. e ≡ fault.Twice
+        → StandsTwice (stored_places state.now.contents.codes entries.now)) }
 {
     let mut places = found_places(alloc, state, entries)?;
     places.sort_unstable_by_key(|p| (p.segment, p.row));

@@ -105,9 +105,9 @@ impl<M: FileMaker> Prepared<M> {
             (map (λ m. (M.sealed_bytes m.sealed, m.footer)) change.files.items)
             (map (entry_back first) change.index.items) }
         ensures { self.new ≡ record self.old {
-            files = map (λ m. (M.sealed_bytes m.sealed, m.footer)) change.files.items;
-            entries = map (entry_back first) change.index.items;
-            spent = false;
+          files = map (λ m. (M.sealed_bytes m.sealed, m.footer)) change.files.items;
+          entries = map (entry_back first) change.index.items;
+          spent = false;
         } }
     {
         let Change {

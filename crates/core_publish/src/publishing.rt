@@ -9,7 +9,7 @@ ghost use Rattle.pk_model.specs.declared.calls.Reply.TheVariants as reply;
 ghost use Rattle.tablet_state.specs.Contents.{current_number, worn_of};
 ghost use Rattle.tablet_state.specs.State.{Has, Rests, StandsThroughout, Steps, faults_of, reads_of, refusal_of};
 ghost use Rattle.core_publish.specs.Replies.{TellsShut, shut_after, told_by_reply};
-ghost use Rattle.core_publish.specs.Publishing.{IsPublishing, IsWrongIndex, index_damage, published_in, uses_up};
+ghost use Rattle.core_publish.specs.Publishing.{IsHeldNext, IsPublishing, IsWrongIndex, index_damage, published_in, uses_up};
 
 use crate::Prepared;
 use crate::ready::{UnreadyFault, ready_of};
@@ -29,8 +29,8 @@ use tablet_state::State;
 /// - `ManyVersions` exactly where neither is so and 1,000 versions are kept;
 /// - `Memory` where memory is wanted;
 /// - `StoreFault` where the store failed, with the number of its faults, and then the state is closed;
-/// - `Damaged` where the index names one row for two keys, or a row that isn't a live one, and then the state is closed.
-///   It never is where the state has a book;
+/// - `Damaged` where the index names one row for two keys, or a row that isn't a live one, and then the state is
+///   closed. It never is where the state has a book;
 /// - else `Published`.
 pub fn publish<S: Store>(
     alloc: Global,
@@ -71,6 +71,10 @@ pub fn publish<S: Store>(
     ensures contents { state.new.contents.schema ≡ state.old.contents.schema }
     ensures published { (v : ℕ) → result ≡ reply.Published v
         → (v ≡ current_number state.old.contents + 1) × (current_number state.new.contents ≡ v) }
+
+    // Over every store, the load's files and entries, and no others, make the version that it answers.
+    ensures held { (v : ℕ) → result ≡ reply.Published v
+        → IsHeldNext state.old.contents prepared.old.files prepared.old.entries state.new.contents }
     ensures same { published_in result ≡ None → state.new.contents ≡ state.old.contents }
     ensures number { (n : ℕ) → result ≡ reply.StoreFault n → n ≡ faults_of S.view state.new }
     ensures counted { faults_of S.view state.new

@@ -3,7 +3,7 @@ ghost use Rattle.pk_model.specs.declared.books.Book.{Book};
 ghost use Rattle.tablet_state.specs.Contents.{index_of};
 ghost use Rattle.tablet_state.specs.State.{Has, Rests, faults_of, refusal_of};
 ghost use Rattle.tablet_state.specs.Readies.{IsChangeOf, IsMade};
-ghost use Rattle.core_publish.specs.Publishing.{IsWrongIndex, emptied};
+ghost use Rattle.core_publish.specs.Publishing.{IsTaken, IsWrongIndex, emptied};
 ghost use Rattle.core_publish.specs.declared.ready.UnreadyFault.TheVariants as fault;
 
 use crate::Prepared;
@@ -44,6 +44,9 @@ pub fn ready_of<S: Store>(
         state.old.contents.next_file (map (λ m. (S.Maker.sealed_bytes m.sealed, m.footer)) ready.change.files.items)
         ready.change.dead.items ready.change.index.items) }
 
+    ensures taken { IfOk result (λ ready. IsTaken state.old.contents prepared.old.files prepared.old.entries
+        (map (λ m. (S.Maker.sealed_bytes m.sealed, m.footer)) ready.change.files.items) ready.change.dead.items
+        ready.change.index.items) }
     ensures wrong { IsErrOf result fault.Index → IsWrongIndex state.old.contents prepared.old.entries }
     ensures intact { (b : Book) → Has S.view state.old b → IfErr result (λ e. e ≡ fault.Memory) }
     ensures rests { Rests S.view state.old state.new }

@@ -1,4 +1,4 @@
-use Rattle.std.proofs.Common.{◌≡◌, ◌∙◌, ap, sym, subst, List, None, false, map, length, ◌≤◌, arith}
+use Rattle.std.proofs.Common.{◌≡◌, ◌∙◌, ap, sym, subst, ℕ, List, None, false, map, length, ◌≤◌, arith}
 use Rattle.std.specs.List.{AllByRecursion}
 use Rattle.std.proofs.lemmas.List.{length-map}
 use Rattle.pk_values.specs.Schemas.{Layout, schema_fault}
@@ -10,7 +10,7 @@ use Rattle.tablet_state.specs.Contents.{index_of}
 use Rattle.tablet_state.specs.Readies.{IsChangeOf, IsMadeOf, NewSegment}
 use Rattle.core_publish.specs.Prepared.{IsPrepared, PreparedView}
 use Rattle.core_publish.specs.Publication.{entry_from}
-use Rattle.core_publish.specs.Publishing.{IsFrom, StandsTwice, entry_back, stored_places}
+use Rattle.core_publish.specs.Publishing.{IsFrom, IsTaken, StandsTwice, entry_back, stored_places}
 use Rattle.core_publish.proofs.ChangeFacts.{four-files, known, no_twice, taken_change, wrong-row}
 use Rattle.core_publish.proofs.KeyFacts.{all-from, back-again}
 use Rattle.core_publish.proofs.TurnFacts.{goes_on}
@@ -114,6 +114,28 @@ returns-in-Ok-ready-clause-change g c b h =
     pre.load pre.files pre.entries p ch.files.items are first c.next_file-first.ensures ch.dead.items found ch.index.items c.take_change-change.ensures.entries in
     subst (λ (x : Change g.row.S-Maker.Denot g.row.S-Maker-Sealed.Denot g.S.Maker.FileMaker).
     IsChangeOf st.contents.schema (index_of st.contents) b pre.load st.contents.next_file (map see x.files.items) x.dead.items x.index.items) (sym c.in-Ok-ready.ensures.change) is
+
+pub returns-in-Ok-ready-clause-taken : goal.returns-in-Ok-ready-clause-taken
+returns-in-Ok-ready-clause-taken g c =
+    let see : Made g.row.S-Maker.Denot g.row.S-Maker-Sealed.Denot g.S.Maker.FileMaker → NewSegment = λ m. (g.S.Maker.FileMaker.sealed_bytes m.sealed, m.footer) in
+    let st = c.args.state.now in
+    let pre : PreparedView = c.args.prepared.now in
+    let open_ : st.closed ≡ None = (goes_on st c.requires.goes).0 in
+    let p : IsPrepared st.contents.schema pre.load pre.files pre.entries =
+    subst (λ (s : Layout). IsPrepared s pre.load pre.files pre.entries) c.requires.schema (c.entries.ensures.prepared c.requires.unspent) in
+    let ch = c.take_change-change.result in
+    let first = c.next_file-first.result in
+    let are : map see ch.files.items ≡ pre.files = c.take_change-change.ensures.files in
+    let found : HaveSame ch.dead.items (stored_places st.contents.codes pre.entries) =
+    rw (c.take_change-change.ensures.dead)
+    (subst (λ (es : List CodeMove). HaveSame c.in-Ok.dead.items (stored_places st.contents.codes es)) c.entries.ensures.entries c.in-Ok.ensures.found) in
+    let taken : IsTaken st.contents pre.files pre.entries (map see ch.files.items) ch.dead.items ch.index.items = record {
+      files_are = are;
+      moved_are = c.take_change-change.ensures.entries ∙ ap (λ (n : ℕ). map (entry_from n) pre.entries) c.next_file-first.ensures;
+      found = found;
+    } in
+    subst (λ (x : Change g.row.S-Maker.Denot g.row.S-Maker-Sealed.Denot g.S.Maker.FileMaker).
+    IsTaken st.contents pre.files pre.entries (map see x.files.items) x.dead.items x.index.items) (sym c.in-Ok-ready.ensures.change) taken
 
 pub returns-in-Err-default-Memory-clause-kept : goal.returns-in-Err-default-Memory-clause-kept
 returns-in-Err-default-Memory-clause-kept g c _ =
