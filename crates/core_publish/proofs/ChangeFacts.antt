@@ -1,49 +1,38 @@
 -- A prepared load is the change of its load over a book.
-use Rattle.std.proofs.Common.{◌≡◌, refl, ap, sym, subst, ◌∙◌, inl, inr, ℕ, suc, ◌+◌, ◌-◌, ◌/◌, ◌<◌, ◌≤◌, List, [], ◌∷◌, ◌++◌, map, length, Option, Some, None, Bool as Truth, true, false, ◌||◌, ◌&&◌, ◌==◌, nat_lt, cond, arith, is_some, slice_get, append-nil}
-use Rattle.std.specs.Prelude.{All, IsTrue, option_to_list}
+use Rattle.std.proofs.Common.{◌≡◌, refl, ap, sym, subst, ◌∙◌, inr, ℕ, ◌+◌, ◌/◌, ◌≤◌, List, [], ◌∷◌, map, length, Option, Some, None, Bool as Truth, true, false, arith, is_some, append-nil}
+use Rattle.std.specs.Prelude.{IsTrue}
 use Rattle.std.specs.List.{AllByRecursion, list_all}
-use Rattle.std.specs.Cmp.{tied_itself}
-use Rattle.std.specs.FinMap.{empty, get, values}
-use Rattle.std.specs.Ordering.{eq_by_cmp, is_eq}
-use Rattle.std.proofs.lemmas.Bool.{and_from, and_parts, eq-eqb, or_cases, or_left, or_right}
-use Rattle.std.proofs.lemmas.Map.Views.{tells_apart}
+use Rattle.std.specs.FinMap.{empty, values}
 use Rattle.column_page.specs.Footers.{is_footer}
 use Rattle.column_page.specs.declared.footers.Footer.{Footer}
 use Rattle.dev_traits.specs.Image.{Image}
 use Rattle.dev_traits.specs.View.{View}
 use Rattle.index_level0.specs.declared.place.Place.{Place}
-use Rattle.key_code.specs.KeyCode.{key_code}
-use Rattle.pk_values.specs.Order.{key_cmp}
-use Rattle.pk_values.specs.OrderFacts.{key_exact, key_total}
-use Rattle.pk_values.specs.Schemas.{Layout, fits_key, schema_fault}
+use Rattle.pk_values.specs.Schemas.{Layout, schema_fault}
 use Rattle.pk_values.specs.declared.cells.Value.{Value}
 use Rattle.segment_form.specs.Segments.{AreSegmentRows, footer_of, segment_file}
 use Rattle.segment_form.proofs.Blocks.{segment_footer_is}
 use Rattle.segment_read.specs.Footers.{HasFooter}
 use Rattle.segment_read.proofs.Intact.{has_its_footer}
-use Rattle.pk_model.specs.Tables.{after, key_named, touches}
+use Rattle.pk_model.specs.Tables.{after}
 use Rattle.pk_model.specs.declared.books.Book.{Book}
 use Rattle.pk_model.specs.declared.calls.Load.{Load}
-use Rattle.pk_model.specs.declared.calls.Op.{Op}
-use Rattle.rowsets.specs.Live.{Files, Index, Live, Part, is_among, live}
-use Rattle.rowsets.specs.Loads.{AreRows, ComeWithRow}
-use Rattle.rowsets.specs.Marks.{marked, same_place, stands_in}
-use Rattle.rowsets.specs.Merging.{all_live, numbered, with_files}
-use Rattle.rowsets.specs.Indexing.{CodeMap, CodeMove, by_code, code_moves, places_of}
+use Rattle.rowsets.specs.Live.{Index, Part, live}
+use Rattle.rowsets.specs.Loads.{AreRows}
+use Rattle.rowsets.specs.Marks.{stands_in}
+use Rattle.rowsets.specs.Merging.{all_live, numbered}
+use Rattle.rowsets.specs.Indexing.{CodeMove, places_of}
 use Rattle.rowsets.specs.Steps.{HaveSame, IsReady}
-use Rattle.journal_form.specs.declared.records.ListedFile.{ListedFile}
 use Rattle.journal_form.specs.declared.records.NewFile.{NewFile}
 use Rattle.journal_form.specs.declared.records.Record.TheVariants.{Publish}
-use Rattle.journal_form.specs.Versions.{Rowset as ListedRowset, file_numbered, files_of as listed_files, published_rowsets, whole_file}
-use Rattle.kept_versions.specs.Files.{can_die, row_lives}
-use Rattle.kept_versions.proofs.ChangeFacts.{published_files}
+use Rattle.journal_form.specs.Versions.{Rowset as ListedRowset, published_rowsets}
+use Rattle.kept_versions.specs.Files.{can_die}
 use Rattle.tablet_state.specs.Contents.{Contents, begun_of, index_of, standing_of}
 use Rattle.tablet_state.specs.Readies.{AreSealed, IsChangeOf, IsLed, IsMadeOf, Leads, NewSegment, new_files, next_contents}
 use Rattle.tablet_state.specs.State.{Has, HasStore, Shown}
 use Rattle.tablet_state.proofs.RowFacts.{held_rows_fit}
-use Rattle.core_publish.specs.Lines.{IsShortKey}
-use Rattle.core_publish.specs.Prepared.{AreSealedOf, IsPrepared, files_from, files_of, fresh, moves_to, place_in}
-use Rattle.core_publish.specs.Publication.{entry_from, placed_from, written_files}
+use Rattle.core_publish.specs.Prepared.{AreSealedOf, IsPrepared, fresh, moves_to}
+use Rattle.core_publish.specs.Publication.{entry_from, written_files}
 use Rattle.core_publish.specs.Publishing.{IsHeldNext, IsTaken, IsWrongIndex, StandsTwice, stored_places}
 use Rattle.core_publish.proofs.EntryFacts.{entries-are-moves, length-files, prepared-is-ready}
 use Rattle.core_publish.proofs.OldPlaces.{not_twice}

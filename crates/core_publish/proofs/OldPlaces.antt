@@ -1,8 +1,8 @@
 -- Sorted places rise, or one of them stands twice; and an exact index has no place twice.
-use Rattle.std.proofs.Common.{◌≡◌, refl, ap, sym, subst, ◌∙◌, ◌⊎◌, inl, inr, ℕ, zero, suc, ◌+◌, ◌<◌, ◌≤◌, List, [], ◌∷◌, ◌++◌, length, get_or, Option, Some, None, Bool as Truth, true, false, ◌||◌, ◌&&◌, ◌==◌, nat_lt, cond, arith, add-one}
-use Rattle.std.specs.Prelude.{IsPermutation, IsTrue, count_by, option_to_list}
+use Rattle.std.proofs.Common.{◌≡◌, refl, ap, sym, subst, ◌∙◌, ◌⊎◌, inl, inr, ℕ, zero, suc, ◌+◌, ◌<◌, ◌≤◌, List, [], ◌∷◌, length, get_or, Option, Some, None, Bool as Truth, true, false, ◌||◌, ◌&&◌, ◌==◌, nat_lt, cond, arith, add-one}
+use Rattle.std.specs.Prelude.{IsPermutation, count_by, option_to_list}
 use Rattle.std.specs.List.{AllByRecursion}
-use Rattle.std.specs.Ordering.{eq_by_cmp, is_lt, nat_cmp, ordering_then}
+use Rattle.std.specs.Ordering.{is_lt, nat_cmp, ordering_then}
 use Rattle.std.specs.declared.cmp.Ordering.{Ordering}
 use Rattle.std.specs.declared.cmp.Ordering.TheVariants.{Less, Equal, Greater}
 use Rattle.std.specs.Cmp.{tied_itself}
@@ -16,9 +16,9 @@ use Rattle.pk_values.specs.Order.{key_cmp}
 use Rattle.pk_values.specs.OrderFacts.{key_total}
 use Rattle.pk_values.specs.Schemas.{Layout, key_of}
 use Rattle.pk_values.specs.declared.cells.Value.{Value}
-use Rattle.rowsets.specs.Live.{HasKey, Index, IsIndex, Live}
+use Rattle.rowsets.specs.Live.{Index, IsIndex, Live}
 use Rattle.rowsets.specs.Indexing.{places_of}
-use Rattle.rowsets.specs.Marks.{same_place, stands_in}
+use Rattle.rowsets.specs.Marks.{same_place}
 use Rattle.rowsets.specs.Steps.{HaveSame}
 use Rattle.core_publish.specs.Prepared.{Rise}
 use Rattle.core_publish.specs.Publishing.{StandsTwice, is_below}
