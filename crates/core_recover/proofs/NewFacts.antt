@@ -1,11 +1,12 @@
 -- The tablet of a store whose first record was written.
-use Rattle.std.proofs.Common.{◌≡◌, refl, ap, sym, subst, ◌∙◌, ℕ, ◌<◌, ◌^◌, List, [], ◌∷◌, length, Option, Some, None, IsTrue, true, false, cond, Bool, arith}
+use Rattle.std.proofs.Common.{◌≡◌, ◌⊎◌, inl, inr, ⊎_elim, refl, ap, sym, subst, ◌∙◌, ℕ, ◌<◌, ◌^◌, List, [], ◌∷◌, length, Option, Some, None, IsTrue, true, false, cond, Bool, arith}
 use Rattle.std.specs.FinMap.{empty, get, get-empty}
 use Rattle.pk_values.specs.Schemas.{Layout, fits_key, schema_fault}
 use Rattle.pk_values.specs.declared.cells.Value.{Value}
 use Rattle.key_code.specs.KeyCode.{key_code}
 use Rattle.dev_traits.specs.Image.{Image, file}
-use Rattle.dev_traits.specs.View.{View, Told}
+use Rattle.dev_traits.specs.View.{View, LeavesOnly, Told}
+use Rattle.dev_traits.proofs.Moments.{leaves_only_by}
 use Rattle.index_level0.specs.declared.place.Place.{Place}
 use Rattle.pk_model.specs.Books.{new_book}
 use Rattle.rowsets.specs.Live.{HasRow, StandsFor, live}
@@ -15,7 +16,7 @@ use Rattle.segment_read.specs.declared.segments.Segment.{Segment}
 use Rattle.journal_form.specs.Versions.{Rowset as ListedRowset}
 use Rattle.tablet_state.specs.Seen.{segments_of}
 use Rattle.journal_form.specs.Meaning.{Standing, created}
-use Rattle.version_journal.specs.Images.{IsSaid}
+use Rattle.version_journal.specs.Images.{HasNoRecord, IsSaid}
 use Rattle.version_journal.specs.Journals.{ReadsAs}
 use Rattle.version_journal.specs.declared.journals.Journal.{Journal}
 use Rattle.tablet_state.specs.Contents.{Contents, contents_of}
@@ -110,3 +111,9 @@ at_empty P older current codes segs o c k g h =
 
 pub none_seen : {R : Type 0} (view : R → ReaderView) (segs : List (Segment R)) → segs ≡ [] → segments_of view segs ≡ []
 none_seen view segs none = ap (segments_of view) none
+
+-- at every moment, in the words of the book
+pub stands_or_none : (schema : Layout) (u v : View) → LeavesOnly (λ left. HasNoRecord left ⊎ IsSaid left (first_standing schema)) u v → LeavesOnly (λ left. HasNoRecord left ⊎ Stands schema new_book left) u v
+stands_or_none schema u v only =
+    leaves_only_by (λ left. HasNoRecord left ⊎ IsSaid left (first_standing schema)) (λ left. HasNoRecord left ⊎ Stands schema new_book left) u v only
+    (λ i h. ⊎_elim (λ none. inl none) (λ said. inr (new_stands schema i said)) h)
