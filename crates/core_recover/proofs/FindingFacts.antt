@@ -1,9 +1,9 @@
 -- A segment that is found by its number.
-use Rattle.std.proofs.Common.{◌≡◌, refl, ap, sym, subst, ◌∙◌, ℕ, zero, suc, ◌+◌, ◌<◌, ◌≤◌, ◌^◌, ◌-◌, List, [], ◌∷◌, ◌++◌, map, length, min, take, get_or, set, slice_get, Option, Some, None, IfSome, IfNone, Result, Ok, Err, MatchResult, OnOk, IfErr, Bool, true, false, ◌==◌, ◌||◌, nat_lt, if◌then◌else◌, arith}
+use Rattle.std.proofs.Common.{◌≡◌, refl, ap, sym, subst, ◌∙◌, ℕ, zero, suc, ◌+◌, ◌<◌, ◌≤◌, ◌^◌, ◌-◌, List, [], ◌∷◌, ◌++◌, map, length, min, take, get_or, set, slice_get, Option, Some, None, IfSome, IfNone, Result, Ok, Err, MatchResult, OnOk, IfErr, Bool, true, false, ◌==◌, ◌||◌, nat_lt, unwrap_or, if◌then◌else◌, arith}
 use Rattle.std.specs.List.{AllByRecursion, list_any}
 use Rattle.std.specs.Result.{result_ok}
 use Rattle.std.proofs.lemmas.Bool.{eq-eqb, ne_eqb, eqb-true, ltb-true, ltb-false}
-use Rattle.std.proofs.lemmas.Option.{slice_get-get_or}
+use Rattle.std.proofs.lemmas.Option.{slice_get-get_or, slice_get_within, unwrap_or-slice_get}
 use Rattle.pk_values.specs.Schemas.{Layout}
 use Rattle.pk_values.specs.declared.cells.Value.{Value}
 use Rattle.column_page.specs.declared.footers.Footer.{Footer}
@@ -161,6 +161,18 @@ module _ {R : Type 0} (view : R → ReaderView) where
       (λ d against stored reads short.
       let r = read_rows s stored segs i g f rise is number reads.0 in
       against (segment_file s (stored f.file)) r.0 (stored f.file) r.1 (subst (λ (ds : List ℕ). HaveShortCodes s ds 0 (stored f.file)) (sym dead_is) short.0)) h
+
+-- an element that was lent by its place
+module _ {R : Type 0} (view : R → ReaderView) where
+  pub in_place : (segs : List (Segment R)) (ns : List ℕ) (place n m : ℕ) (x : Segment R) → ns ≡ numbers_in (segments_of view segs) → n ≡ m → slice_get ns place ≡ Some n → x ≡ get_or segs place x → (slice_get segs place ≡ Some x) × (x.number ≡ m)
+  in_place segs ns place n m x numbers same at is =
+      let w = segment_in_place view segs place m (ap (λ (xs : List ℕ). slice_get xs place) (sym numbers) ∙ at ∙ ap Some same) in
+      let here : get_or segs place x ≡ w.0 = sym (unwrap_or-slice_get segs place x) ∙ ap (λ (o : Option (Segment R)). unwrap_or o x) w.1.0 in
+      let e : w.0 ≡ x = sym (is ∙ here) in
+      (w.1.0 ∙ ap Some e, ap (λ (y : Segment R). y.number) (sym e) ∙ w.1.1)
+
+  pub place_within : (segs : List (Segment R)) (ns : List ℕ) (place n : ℕ) → ns ≡ numbers_in (segments_of view segs) → slice_get ns place ≡ Some n → place < length segs
+  place_within segs ns place n numbers at = let w = segment_in_place view segs place n (ap (λ (xs : List ℕ). slice_get xs place) (sym numbers) ∙ at) in slice_get_within segs place w.0 w.1.0
 
 -- no segment has the number
 pub missing : (s : Layout) (segs : List SegmentView) (f : ListedFile) → list_any (λ m. m == f.file) (numbers_in segs) ≡ false → HasNoIndex s (f ∷ []) segs

@@ -194,3 +194,30 @@ cause_then old mid new x r first second none = second ((first none).well (λ e. 
 
 pub cause_none : {T : Type 0} (segs : List SegmentView) (x : T) → HasReaderCause segs segs (Ok x)
 cause_none segs x none = record { well = λ not. none; failed = λ is. absurd (not_err x read.StoreFault is) }
+
+err_one : {T E : Type 0} (x y : E) → ◌≡◌ {A = Result T E} (Err x) (Err y) → x ≡ y
+err_one {T} {E} x y e = cc
+
+pub cause_over : {T U : Type 0} (old new : List SegmentView) (e : ReadFault) → HasReaderCause {T = T} old new (Err e) → HasReaderCause {T = U} old new (Err e)
+cause_over old new e cause none = record {
+  well = λ not. (cause none).well (λ is. not (ap Err (err_one e read.StoreFault is)));
+  failed = λ is. (cause none).failed (ap Err (err_one e read.StoreFault is));
+}
+
+pub cause_ok : {T U : Type 0} (old new : List SegmentView) (x : T) (y : U) → HasReaderCause old new (Ok x) → HasReaderCause old new (Ok y)
+cause_ok old new x y cause none = record { well = λ not. (cause none).well (λ is. not_err x read.StoreFault is); failed = λ is. absurd (not_err y read.StoreFault is) }
+
+no_memory : read.Memory ≡ read.StoreFault → ⊥
+no_memory e = cc
+
+pub cause_memory : {T U : Type 0} (old new : List SegmentView) (x : T) → HasReaderCause old new (Ok x) → HasReaderCause {T = U} old new (Err read.Memory)
+cause_memory old new x cause none = record { well = λ not. (cause none).well (λ is. not_err x read.StoreFault is); failed = λ is. absurd (no_memory (err_one read.Memory read.StoreFault is)) }
+
+pub well_zero : {T : Type 0} (old new : List SegmentView) (x : T) → HasReaderCause old new (Ok x) → reader_faults old ≡ 0 → reader_faults new ≡ 0
+well_zero old new x cause none = (cause none).well (λ is. not_err x read.StoreFault is)
+
+pub take_whole : {X : Type 0} (n : ℕ) (xs : List X) → length xs ≤ n → take n xs ≡ xs
+take_whole zero [] le = refl
+take_whole zero (x ∷ xs) le = absurd (omega arith)
+take_whole (suc n) [] le = refl
+take_whole (suc n) (x ∷ xs) le = ap (λ (ys : List _). x ∷ ys) (take_whole n xs (omega arith))

@@ -10,3 +10,5 @@ pub mod AttachFacts
 pub mod OpenFacts
 pub mod OpenedFacts
 pub mod TabletFacts
+pub mod CountFacts
+pub mod NewFacts

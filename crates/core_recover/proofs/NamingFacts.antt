@@ -10,6 +10,7 @@ use Rattle.std.specs.declared.cmp.Ordering.TheVariants.{Less, Equal, Greater}
 use Rattle.std.proofs.lemmas.Bool.{eqb-true, eqb-false, eq-eqb, ltb-true, ne_eqb}
 use Rattle.std.proofs.lemmas.Map.Keys.{sorted_head, sorted_tail}
 use Rattle.std.proofs.lemmas.List.{map-append}
+use Rattle.std.proofs.lemmas.Option.{slice_get-get_or}
 use Rattle.rowsets.specs.Marks.{Rises}
 use Rattle.journal_form.specs.declared.records.NewFile.{NewFile}
 use Rattle.journal_form.specs.declared.records.ListedFile.{ListedFile}
@@ -172,6 +173,13 @@ pub noted_so : (file : NewFile) (old new : Names) (told : ℕ) (b : Bool) → ((
 noted_so file old new told true put was is = noted_one file old new put (inr (was ∙ ap Some (eqb-true told file.rows (sym is))))
 noted_so file old new told false put was is = clashes_one file old told was (eqb-false told file.rows (sym is))
 
+pub noted_put : (file : NewFile) (k r : ℕ) (old new : Names) (told : ℕ) (b : Bool) → k ≡ file.file → r ≡ file.rows → ((n : ℕ) → new n ≡ cond (is_eq (nat_cmp k n)) (Some r) (old n)) → old k ≡ Some told → b ≡ (told == r) → Noted b (file ∷ []) old new
+noted_put file k r old new told b key value put was is =
+    noted_so file old new told b (λ n. put n ∙ λ i. cond (is_eq (nat_cmp (key i) n)) (Some (value i)) (old n)) (ap old (sym key) ∙ was) (is ∙ ap (λ (x : ℕ). told == x) value)
+
+pub at_index : {X : Type 0} (xs : List X) (i : ℕ) (x : X) → i < length xs → x ≡ get_or xs i x → slice_get xs i ≡ Some x
+at_index xs i x lt is = slice_get-get_or xs i x lt ∙ ap Some (sym is)
+
 -- ---- the whole
 
 among_whole : (files : List NewFile) (old : Names) (number rows : ℕ) → ((n : ℕ) → old n ≡ None) → (old number ≡ Some rows) ⊎ IsAmong files number rows → IsAmong files number rows
@@ -190,6 +198,9 @@ clash_whole files old none c = record {
   other = among_whole files old c.number c.second none c.other;
   apart = c.apart;
 }
+
+pub no_names : (m : BTreeMap ℕ ℕ) → m.entries ≡ [] → (n : ℕ) → get nat_cmp m n ≡ None
+no_names m none n = ap (λ es. lookup (is_at (nat_cmp n)) es) none
 
 pub clash_older : (older : List (List Rowset)) (current : List Rowset) (old : Names) → ((n : ℕ) → old n ≡ None) → Clashes (told_in older) old → Clash (told_in (older ++ current ∷ []))
 clash_older older current old none c =

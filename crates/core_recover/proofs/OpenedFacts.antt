@@ -29,8 +29,8 @@ use Rattle.core_recover.specs.declared.replaying.Replayed.{Replayed}
 use Rattle.core_recover.specs.Indexing.{numbers_in}
 use Rattle.core_recover.specs.Reading.{HasFiles, IsIndexed, IsOpened, IsReadOf, ReadsFiles, contents, named}
 use Rattle.core_recover.specs.Replaying.{IsReplayed, versions_in}
-use Rattle.core_recover.proofs.AreaFacts.{told_after, told_before}
-use Rattle.core_recover.proofs.OpenFacts.{forget_kept, free_file, left_stands, like_none, like_stands, read_kept, settled_still}
+use Rattle.core_recover.proofs.AreaFacts.{blanks_like, told_after}
+use Rattle.core_recover.proofs.OpenFacts.{forget_kept, free_file, left_stands, like_back, like_none, like_stands, read_kept, settled_still}
 use Rattle.core_recover.proofs.CreateFacts.{calm_only, only_after}
 use Rattle.core_recover.proofs.ReadingFacts.{below_next, index_there, moved_there, named_is, standing_is}
 use Rattle.tablet_state.proofs.VersionFacts.{parts}
@@ -146,3 +146,47 @@ while_kept r segs ns s b image u v w numbers stands is has so_far like call =
 pub like_none_book : (u v : View) (image : Image) → HasNoRecord image → LeavesOnly (λ left. u.may_leave left ⊎ IsLike image left) u v → LeavesOnly (λ left. u.may_leave left ⊎ HasNoRecord left) u v
 like_none_book u v image none only =
     leaves_only_by (λ left. u.may_leave left ⊎ IsLike image left) (λ left. u.may_leave left ⊎ HasNoRecord left) u v only (λ i h. ⊎_elim (λ may. inl may) (λ like. inr (like_none image i like none)) h)
+
+-- ---- the store as it was settled and read
+
+pub synced_calm : (a : ℕ) (u v : View) → Calm u v → IsSynced a u → IsSynced a v
+synced_calm a u v calm synced image told left may = synced image (sym calm.seen ∙ told) left ((calm.now left).0 may)
+
+pub none_each : (v : View) (image : Image) → HasNoRecord image → EachImage v (IsLike image) → EachImage v HasNoRecord
+none_each v image none like left may = like_none image left (like left may) none
+
+-- from the store handed in to the one that is read: what stands there, and at every moment
+pub record IsSettledFrom (u v w : View) : Type 0 where
+  pub calm : Calm u v
+  pub tells : is_some w.seen ≡ is_some v.seen
+  pub seen : Told v (λ before. Told w (BlanksEmpty before))
+  pub like : IsTrue v.is_honest → Told v (λ image. EachImage w (IsLike image))
+  pub moments : IsTrue v.is_honest → Told v (λ image. LeavesOnly (λ left. v.may_leave left ⊎ IsLike image left) v w)
+
+module _ (u v w : View) (p : IsSettledFrom u v w) (image : Image) (told : u.seen ≡ Some image) where
+  pub told_one : v.seen ≡ Some image
+  told_one = p.calm.seen ∙ told
+
+  honest_one : IsTrue u.is_honest → IsTrue v.is_honest
+  honest_one honest = subst (λ (b : Bool). IsTrue b) (sym p.calm.honest) honest
+
+  abbrev pub mid : (image : Image) × (w.seen ≡ Some image)
+  mid = told_after v w image p.tells told_one
+
+  pub mid_like : IsLike image mid.0
+  mid_like = blanks_like image mid.0 (p.seen image told_one mid.0 mid.1)
+
+  abbrev pub mid_stands : (s : Layout) (b : Book) → Stands s b image → Stands s (durable b) mid.0
+  mid_stands s b stands = like_stands s b image mid.0 stands mid_like
+
+  pub each_like : IsTrue u.is_honest → EachImage w (IsLike image)
+  each_like honest = p.like (honest_one honest) image told_one
+
+  pub settled_moments : IsTrue u.is_honest → LeavesOnly (λ left. u.may_leave left ⊎ IsLike image left) u w
+  settled_moments honest = from_calm (IsLike image) u v w p.calm (p.moments (honest_one honest) image told_one)
+
+-- an image without a record was one before
+pub empty_before : (u v w : View) → IsSettledFrom u v w → Told w HasNoRecord → Told u HasNoRecord
+empty_before u v w p none image told =
+    let m = told_after v w image p.tells (p.calm.seen ∙ told) in
+    like_back image m.0 (blanks_like image m.0 (p.seen image (p.calm.seen ∙ told) m.0 m.1)) (none m.0 m.1)

@@ -1,5 +1,5 @@
 -- What each record makes of what was replayed.
-use Rattle.std.proofs.Common.{◌≡◌, refl, ap, sym, subst, ◌∙◌, ℕ, zero, suc, ◌+◌, ◌-◌, ◌<◌, ◌≤◌, ◌^◌, List, [], ◌∷◌, ◌++◌, map, length, drop, take, Option, Some, None, IfSome, IsSome, IsTrue, Bool, true, false, ◌==◌, ◌&&◌, nat_lt, not, is_some, arith, length-append, length-drop, if◌then◌else◌}
+use Rattle.std.proofs.Common.{◌≡◌, refl, ap, sym, subst, ◌∙◌, ℕ, zero, suc, ◌+◌, ◌-◌, ◌<◌, ◌≤◌, ◌^◌, List, [], ◌∷◌, ◌++◌, map, length, drop, take, Option, Some, None, IfSome, IsSome, IsTrue, Bool, true, false, ◌==◌, ◌&&◌, nat_lt, not, is_some, arith, length-append, length-drop, if◌then◌else◌, Result, Ok, Err, OnOk}
 use Rattle.std.specs.List.{AllByRecursion}
 use Rattle.std.specs.Option.{option_and_then}
 use Rattle.std.proofs.lemmas.Bool.{and_parts, ltb-true, leb-true, eqb-true}
@@ -279,6 +279,21 @@ first_is records left told s split h not = go told (ap records_mean (sym split) 
     go (Levels levels) e f = apart _ (none left) e
     go (Checkpoint epoch form schema next_file floor rowsets kept levels) e f = apart _ (none left) e
 
+-- so it may be the first one
+pub may_begin : (records left : List Record) (told : Record) (s : Standing) → records ≡ told ∷ left → records_mean records ≡ Some s → IsSome (begun told)
+may_begin records left told s split h = go (begun told) (ap records_mean (sym split) ∙ h)
+  where
+    none : (rs : List Record) → goes_on rs None ≡ None
+    none [] = refl
+    none (q ∷ rs) = none rs
+
+    apart : (o : Option Standing) → o ≡ None → o ≡ Some s → ⊥
+    apart o e f = cc
+
+    go : (o : Option Standing) → goes_on left o ≡ Some s → IsSome o
+    go (Some t) e = refl
+    go None e = absurd (apart (goes_on left None) (none left) e)
+
 pub no_record : (records : List Record) (s : Standing) → records ≡ [] → records_mean records ≡ Some s → ⊥
 no_record records s none h = let e : records_mean [] ≡ Some s = ap records_mean (sym none) ∙ h in cc
 
@@ -325,3 +340,35 @@ pub all_replayed : (records left : List Record) (r : Replayed) (s : Standing) �
 all_replayed records left r s none so h =
     let e : Some so.0 ≡ Some s = sym (so.1.1 ∙ ap (λ (rs : List Record). goes_on rs (Some so.0)) none) ∙ h in
     subst (IsReplayed r) (some_is so.0 s e) so.1.0
+
+-- ---- of a record as it is matched
+
+pub publish_fits : (r : Replayed) (told : Record) (version : ℕ) (files fs : List NewFile) (changed cs : List DeadRows) → Takes r told → told ≡ Publish version files changed → fs ≡ files → cs ≡ changed
+    → (changes_fit 0 (files_of (published_rowsets fs r.current)) cs ≡ true) × (all_below bound (numbers_of fs) ≡ true)
+publish_fits r told version files fs changed cs takes is same rows =
+    let p = takes_publish r version files changed (subst (Takes r) is takes) in
+    ((λ i. changes_fit 0 (files_of (published_rowsets (same i) r.current)) (rows i)) ∙ p.0, ap (λ (x : List NewFile). all_below bound (numbers_of x)) same ∙ p.1)
+
+pub compact_fits_told : (r : Replayed) (told : Record) (version replaced : ℕ) (files fs : List NewFile) (changed cs : List DeadRows) (levels : Option LevelList) → Takes r told → told ≡ Compact version replaced files changed levels → fs ≡ files → cs ≡ changed
+    → (replaced ≤ length r.current) × (changes_fit 0 (files_of (compacted_rowsets replaced fs r.current)) cs ≡ true) × (all_below bound (numbers_of fs) ≡ true)
+compact_fits_told r told version replaced files fs changed cs levels takes is same rows =
+    let p = takes_compact r version replaced files changed levels (subst (Takes r) is takes) in
+    (p.0, (λ i. changes_fit 0 (files_of (compacted_rowsets replaced (same i) r.current)) (rows i)) ∙ p.1, ap (λ (x : List NewFile). all_below bound (numbers_of x)) same ∙ p.2)
+
+pub publish_follows : (r new : Replayed) (told : Record) (version : ℕ) (files fs : List NewFile) (changed cs : List DeadRows) → Takes r told → told ≡ Publish version files changed → fs ≡ files → cs ≡ changed → HasPublished fs cs r new → HasFollowed told r new
+publish_follows r new told version files fs changed cs takes is same rows p =
+    subst (λ (x : Record). HasFollowed x r new) (sym is) (followed_publish r new version files changed (subst (Takes r) is takes) (subst (λ (x : List NewFile). HasPublished x changed r new) same (subst (λ (x : List DeadRows). HasPublished fs x r new) rows p)))
+
+pub compact_follows : (r new : Replayed) (told : Record) (version replaced : ℕ) (files fs : List NewFile) (changed cs : List DeadRows) (levels : Option LevelList) → Takes r told → IsTrue (is_built told) → told ≡ Compact version replaced files changed levels → fs ≡ files → cs ≡ changed
+    → HasCompacted replaced fs cs r new → HasFollowed told r new
+compact_follows r new told version replaced files fs changed cs levels takes built is same rows p =
+    subst (λ (x : Record). HasFollowed x r new) (sym is)
+    (followed_compact r new version replaced files changed levels (subst (λ (x : Record). IsTrue (is_built x)) is built) (subst (Takes r) is takes)
+    (subst (λ (x : List NewFile). HasCompacted replaced x changed r new) same (subst (λ (x : List DeadRows). HasCompacted replaced fs x r new) rows p)))
+
+pub floor_follows : (r new : Replayed) (told : Record) (floor : ℕ) → Takes r told → told ≡ Floor floor → HasRaised floor r new → HasFollowed told r new
+floor_follows r new told floor takes is p = subst (λ (x : Record). HasFollowed x r new) (sym is) (followed_floor r new floor (subst (Takes r) is takes) p)
+
+pub on_so : {T E : Type 0} (r : Result T E) (P Q : Type 0) → (P → Q) → OnOk r P → OnOk r Q
+on_so (Ok t) P Q f p = f p
+on_so (Err e) P Q f p = tt

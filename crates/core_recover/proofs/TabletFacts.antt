@@ -81,8 +81,11 @@ emptied_journal (journal.Damaged d) h = cc
 emptied_journal journal.StoreFault h = cc
 emptied_journal journal.Memory h = cc
 
-err_inner : {T E : Type 0} (x y : E) → Err {T = T} {E = E} x ≡ Err y → x ≡ y
-err_inner x y e = cc
+err_inner : {T E : Type 0} (x y : E) → ◌≡◌ {A = Result T E} (Err x) (Err y) → x ≡ y
+err_inner {T} {E} x y e = cc
+
+pub err_over : {T U E : Type 0} (x y : E) → ◌≡◌ {A = Result T E} (Err x) (Err y) → ◌≡◌ {A = Result U E} (Err x) (Err y)
+err_over x y is = ap Err (err_inner x y is)
 
 pub no_err : {T E : Type 0} (x : T) (e : E) → Ok x ≡ Err e → ⊥
 no_err x e is = cc

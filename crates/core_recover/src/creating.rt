@@ -1,7 +1,8 @@
-ghost use Rattle.std.specs.Prelude.{◌≡◌, ◌⊎◌, ◌+◌, ◌<◌, ◌≤◌, ℕ, [], None, Some, IsTrue, IfOk, IfErr, OnOk, length};
+ghost use Rattle.std.specs.Prelude.{◌≡◌, ◌⊎◌, ◌+◌, ◌-◌, ◌^◌, min, ◌<◌, ◌≤◌, ℕ, [], None, Some, IsTrue, IfOk, IfErr, OnOk, length};
 ghost use Rattle.dev_traits.specs.Causes.{HasCause, HasCauseOf, RoseBy};
 ghost use Rattle.dev_traits.specs.Image.{file};
 ghost use Rattle.dev_traits.specs.View.{EachImage, Leaves, LeavesOnly, Spends, Told};
+ghost use Rattle.pk_values.specs.Schemas.{schema_fault};
 ghost use Rattle.journal_form.specs.Meaning.{Standing};
 ghost use Rattle.pk_model.specs.Books.{new_book};
 ghost use Rattle.version_journal.specs.Commits.{IsDue};
@@ -74,20 +75,21 @@ fn first_of(alloc: Global, schema: Schema) -> Result<First, Memory>
     ensures start { IfOk result (λ first. IsStart first.journal) }
     ensures due { IfOk result (λ first. IsDue first.draft.body None (first_standing schema)) }
     ensures edit { IfOk result (λ first. first.draft.edit ≡ 0) }
+    ensures good { OnOk result (schema_fault schema.columns schema.keys ≡ None) }
 {
     schema_columns();
     let _keys = schema.keys();
     let journal = Journal::new(Log { area: 0, end: 0 });
-    let told = Record::Create { form: 1, schema };
+    let told = Record::Create {
+        form: 1,
+        schema: schema.copy(alloc)?,
+    };
     let draft = draft(alloc, &journal, &told)?;
-    match told {
-        Record::Create { form: _, schema } => Ok(First {
-            journal,
-            draft,
-            schema,
-        }),
-        _ => unreachable!(),
-    }
+    Ok(First {
+        journal,
+        draft,
+        schema,
+    })
 }
 
 // What a new state is made of, beside its store.
@@ -104,6 +106,7 @@ fn begin<S: Store>(alloc: Global, store: &mut S, schema: Schema) -> Result<Begun
     ensures reads { IfOk result (λ begun. Told (S.view store.new) (ReadsAs begun.journal (Some (first_standing schema)))) }
     ensures none { OnOk result (Told (S.view store.new) (λ image. (number : ℕ) → file image number ≡ None)) }
     ensures schema { IfOk result (λ begun. begun.schema ≡ schema) }
+    ensures good { OnOk result (schema_fault schema.columns schema.keys ≡ None) }
     ensures maker { IfOk result (λ begun. (S.Maker.view begun.maker).faults ≡ 0) }
     ensures any_moment { IsTrue (S.view store.old).is_honest → EachImage (S.view store.old) HasNoRecord
         → LeavesOnly (λ left. HasNoRecord left ⊎ IsSaid left (first_standing schema)) (S.view store.old) (S.view store.new) }
@@ -153,28 +156,45 @@ pub fn create<S: Store>(alloc: Global, store: S, schema: Schema) -> Result<State
 {
     let mut store = store;
     match begin(alloc, &mut store, schema) {
-        Ok(begun) => {
-            let Begun {
-                maker,
-                journal,
-                schema,
-            } = begun;
-            Ok(State::of(StateParts {
-                store,
-                maker,
-                log: journal.log,
-                schema,
-                form: 1,
-                epoch: 0,
-                edit: 0,
-                next_file: 1,
-                floor: 0,
-                older: Vec::new(alloc),
-                current: KeptVersion::empty(alloc),
-                segments: Vec::new(alloc),
-                index: KeyIndex::new(alloc),
-            }))
-        }
+        Ok(begun) => Ok(new_state(alloc, store, begun)),
         Err(fault) => Err((store, fault)),
     }
+}
+
+// The state of a store whose first record was written.
+fn new_state<S: Store>(alloc: Global, store: S, begun: Begun<S>) -> State<S>
+    requires good { schema_fault begun.schema.columns begun.schema.keys ≡ None }
+    requires reads { Told (S.view store) (ReadsAs begun.journal (Some (first_standing begun.schema))) }
+    requires none { Told (S.view store) (λ image. (number : ℕ) → file image number ≡ None) }
+    requires begun { IsTrue (S.view store).is_honest → HasBegun begun.journal (first_standing begun.schema) (S.view store) }
+    ensures book { IsTrue (S.view store).is_honest → Has S.view result new_book }
+    ensures schema { result.contents.schema ≡ begun.schema }
+    ensures store { result.store ≡ store }
+    ensures faults { (S.Maker.view begun.maker).faults ≡ 0 → faults_of S.view result ≡ min (S.view store).faults (2 ^ 64 - 1) }
+    ensures open { result.closed ≡ None }
+{
+    let Begun {
+        maker,
+        journal,
+        schema,
+    } = begun;
+    let older = Vec::new(alloc);
+    let current = KeptVersion::empty(alloc);
+    let segments = Vec::new(alloc);
+    let index = KeyIndex::new(alloc);
+    State::of(StateParts {
+        store,
+        maker,
+        log: journal.log,
+        schema,
+        form: 1,
+        epoch: 0,
+        edit: 0,
+        next_file: 1,
+        floor: 0,
+        older,
+        current,
+        segments,
+        index,
+    })
 }

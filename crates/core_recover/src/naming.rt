@@ -1,5 +1,5 @@
 ghost use Rattle.std.specs.Prelude.{◌≡◌, ◌++◌, ◌∷◌, [], IfOk, MatchOption, length, map, nat_le};
-ghost use Rattle.std.specs.BTreeMap.{get};
+ghost use Rattle.std.specs.BTreeMap.{IsOrdered, get};
 ghost use Rattle.std.specs.Ordering.{nat_cmp};
 ghost use Rattle.journal_form.specs.Versions.{files_of};
 ghost use Rattle.tablet_state.specs.Stands.{told_file};
@@ -61,9 +61,10 @@ fn note_versions(noted: &mut BTreeMap<u64, u32>, versions: &[KeptVersion]) -> Re
 
 // The files that were noted, by rising numbers.
 fn listed(alloc: Global, noted: &BTreeMap<u64, u32>) -> Result<Vec<NamedFile>, Memory>
-    ensures { IfOk result (λ named. named.items ≡ map named_of noted.now.entries) }
+    ensures named { IfOk result (λ named. named.items ≡ map named_of noted.now.entries) }
+    ensures ordered { IsOrdered nat_cmp noted.now }
 {
-    let mut named = Vec::new(alloc);
+    let mut named = Vec::with_capacity(alloc, noted.len())?;
     for (number, rows) in noted {
         named.push(NamedFile {
             number: *number,

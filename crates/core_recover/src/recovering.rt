@@ -1,9 +1,9 @@
-ghost use Rattle.std.specs.Prelude.{◌≡◌, ◌⊎◌, ◌≤◌, IsTrue, IfOk, IfErr, IsErrOf, OnOk};
+ghost use Rattle.std.specs.Prelude.{◌≡◌, ◌⊎◌, ◌≤◌, ◌-◌, ◌^◌, min, None, IsTrue, IfOk, IfErr, IsErrOf, OnOk};
 ghost use Rattle.std.specs.List.Sorted.{IsStrictlyIncreasing};
 ghost use Rattle.std.specs.Option.{option_map};
-ghost use Rattle.dev_traits.specs.Causes.{HasCauseOf, RoseBy};
+ghost use Rattle.dev_traits.specs.Causes.{Counts, HasCauseOf, RoseBy};
 ghost use Rattle.dev_traits.specs.Image.{Forgets, with_files_of};
-ghost use Rattle.dev_traits.specs.View.{EachImage, Leaves, LeavesOnly, Told};
+ghost use Rattle.dev_traits.specs.View.{Calm, EachImage, Leaves, LeavesOnly, Told};
 ghost use Rattle.pk_values.specs.Schemas.{Layout};
 ghost use Rattle.pk_model.specs.Durable.{durable};
 ghost use Rattle.pk_model.specs.declared.books.Book.{Book};
@@ -47,6 +47,24 @@ struct Opened<S: Store> {
     tablet: Tablet<S>,
 }
 
+// Hands the readers of what was read to the store.
+fn give_back<S: Store>(store: &mut S, tablet: Tablet<S>)
+    ensures calm { Calm (S.view store.old) (S.view store.new) }
+    ensures counts { Counts (reader_faults (segments_of S.Reader.view tablet.files.segments.items)) (S.view store.old).faults (S.view store.new).faults }
+{
+    let Tablet {
+        journal: _,
+        replayed: _,
+        files,
+    } = tablet;
+    let Indexed {
+        numbers: _,
+        segments,
+        index: _,
+    } = files;
+    give_back_all(store, segments);
+}
+
 // Settles the areas of a store, reads it, and forgets each file that no kept version names.
 fn open_store<S: Store>(alloc: Global, store: &mut S) -> Result<Opened<S>, OpenFault>
     ensures own { IfOk result (λ o. HasOwn (contents o.tablet.replayed o.tablet.files.index.map) (segments_of S.Reader.view o.tablet.files.segments.items)) }
@@ -71,7 +89,7 @@ fn open_store<S: Store>(alloc: Global, store: &mut S) -> Result<Opened<S>, OpenF
     match keep_files(store, &tablet.files.numbers) {
         Ok(maker) => Ok(Opened { maker, tablet }),
         Err(fault) => {
-            give_back_all(store, tablet.files.segments);
+            give_back(store, tablet);
             Err(fault)
         }
     }

@@ -1,8 +1,8 @@
-ghost use Rattle.std.specs.Prelude.{◌≡◌, ◌+◌, ◌^◌, ◌<◌, ◌≤◌, ◌∷◌, [], Some, IsTrue, OnOk, IfOk, length, true};
+ghost use Rattle.std.specs.Prelude.{◌≡◌, ◌+◌, ◌^◌, ◌<◌, ◌≤◌, ◌∷◌, [], ℕ, Some, IsSome, IsTrue, OnOk, IfOk, length, true};
 ghost use Rattle.std.specs.List.{AllByRecursion};
 ghost use Rattle.journal_form.specs.declared.records.Record.TheVariants as entry;
 ghost use Rattle.journal_form.specs.Meaning.{Standing};
-ghost use Rattle.journal_form.specs.Standings.{is_built, records_mean};
+ghost use Rattle.journal_form.specs.Standings.{begun, is_built, records_mean};
 ghost use Rattle.journal_form.specs.Versions.{above, all_below, bound, changes_fit, compacted_rowsets, files_of, numbers_of, published_rowsets};
 ghost use Rattle.core_recover.specs.Replaying.{HasCompacted, HasFollowed, HasPublished, HasRaised, HasStepped, IsReplayed, Takes};
 
@@ -136,6 +136,17 @@ impl Replayed {
     }
 }
 
+// The columns of a first record.
+fn schema_of(first: Record) -> Schema
+    requires { IsSome (begun first) }
+    ensures { (form : ℕ) × (first ≡ entry.Create form result) }
+{
+    match first {
+        Record::Create { form: _, schema } => schema,
+        _ => unreachable!(),
+    }
+}
+
 /// What the records of a journal mean that fit one after the other, of which none tells of index files or of a checkpoint.
 pub fn replay(alloc: Global, records: Vec<Record>) -> Result<Replayed, Memory>
     requires means { (s : Standing) × (records_mean records.items ≡ Some s) }
@@ -143,10 +154,11 @@ pub fn replay(alloc: Global, records: Vec<Record>) -> Result<Replayed, Memory>
     ensures { IfOk result (λ replayed. (s : Standing) → records_mean records.items ≡ Some s → IsReplayed replayed s) }
 {
     let mut left = records.into_iter();
-    let mut replayed = match left.next() {
-        Some(Record::Create { form: _, schema }) => Replayed::begin(alloc, schema),
-        _ => unreachable!(),
+    let first = match left.next() {
+        Some(first) => first,
+        None => unreachable!(),
     };
+    let mut replayed = Replayed::begin(alloc, schema_of(first));
     while let Some(told) = left.next() {
         replayed.step(alloc, &told)?;
     }
