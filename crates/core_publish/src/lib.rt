@@ -1,11 +1,8 @@
-//! Loads as a tablet takes them: prepared outside of any turn, published in one.
+//! A STUB.
 #![tactic(auto)]
 
-mod files;
-mod laws;
-mod lines;
 mod prepared;
-mod results;
+mod publish;
 
-pub use laws::prepared_loads;
 pub use prepared::{Prepared, prepare};
+pub use publish::{open_version, publish, stat};

@@ -1,3 +1,2 @@
-pub mod Parts
-pub mod Snapshots
 pub mod Scans
+pub mod Snapshots

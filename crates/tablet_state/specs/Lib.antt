@@ -1,10 +1,4 @@
-pub mod Stands
-pub mod Holding
-pub mod Turns
 pub mod Contents
+pub mod Stands
 pub mod State
-pub mod Readies
-pub mod Opening
-pub mod Adopting
-pub mod Seen
-pub mod Codes
+pub mod Turns

@@ -1,0 +1,8 @@
+//! A STUB.
+#![tactic(auto)]
+
+mod faults;
+mod recover;
+
+pub use faults::OpenFault;
+pub use recover::{create, recover};
