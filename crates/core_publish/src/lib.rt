@@ -2,7 +2,7 @@
 #![tactic(auto)]
 
 mod prepared;
-mod publish;
+mod publishing;
 
 pub use prepared::{Prepared, prepare};
-pub use publish::{open_version, publish, stat};
+pub use publishing::{open_version, publish, stat};

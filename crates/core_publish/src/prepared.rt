@@ -7,7 +7,6 @@ use dev_traits::{FileMaker, MakeFault};
 use pk_model::Load;
 use pk_values::Schema;
 use std::alloc::Global;
-use std::convert::Infallible;
 use std::marker::Model;
 
 #[derive(Drop)]
@@ -16,7 +15,6 @@ pub struct Prepared<M: FileMaker> {
     load: Load,
     spent: bool,
     files: Vec<M::Sealed>,
-    pub never: Infallible,
 }
 
 impl<M: FileMaker> Model for Prepared<M> {
@@ -25,7 +23,7 @@ impl<M: FileMaker> Model for Prepared<M> {
 
     ghost Value = { PreparedView };
 
-    ghost view = { λ p. record { schema = p.schema; load = p.load; files = map M.sealed_bytes p.files.items; spent = p.spent } };
+    ghost view = { λ p. record { schema = p.schema; load = p.load; files = map (λ f. M.sealed_bytes f) p.files.items; spent = p.spent } };
 }
 
 pub fn prepare<M: FileMaker>(

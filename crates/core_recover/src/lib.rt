@@ -2,7 +2,7 @@
 #![tactic(auto)]
 
 mod faults;
-mod recover;
+mod openings;
 
 pub use faults::OpenFault;
-pub use recover::{create, recover};
+pub use openings::{create, recover};

@@ -1,4 +1,4 @@
-ghost use Rattle.std.specs.Prelude.{◌≡◌, ◌≤◌, ⊥, IsTrue, IfOk, IfErr, IfSome, List, None};
+ghost use Rattle.std.specs.Prelude.{◌≡◌, ◌≤◌, IsTrue, IfOk, IfErr, IfSome, List, None};
 ghost use Rattle.std.specs.FinMap.{len, values};
 ghost use Rattle.pk_values.specs.declared.cells.Value.{Value};
 ghost use Rattle.pk_values.specs.Schemas.{fits_row};
@@ -10,7 +10,6 @@ ghost use Rattle.snapshot_scan.specs.Scans.{AreToCome, Gives, OnDamage};
 use dev_traits::{ReadFault, SealedReader};
 use pk_values::{Row, Schema};
 use std::alloc::Global;
-use std::convert::Infallible;
 use std::marker::Model;
 
 #[derive(Drop)]
@@ -18,7 +17,6 @@ pub struct Snapshot<R: SealedReader> {
     version: u64,
     schema: Schema,
     parts: Vec<R>,
-    never: Infallible,
 }
 
 impl<R: SealedReader> Model for Snapshot<R> {
@@ -34,7 +32,6 @@ impl<R: SealedReader> Model for Snapshot<R> {
 pub struct Scan<R: SealedReader> {
     snapshot: Snapshot<R>,
     fault: Option<ReadFault>,
-    never: Infallible,
 }
 
 impl<R: SealedReader> Model for Scan<R> {
@@ -49,13 +46,13 @@ impl<R: SealedReader> Snapshot<R> {
     pub fn version(&self) -> u64
         ensures { result ≡ self.now.version }
     {
-        match self.never {}
+        self.version
     }
 
     pub fn count(&self) -> u64
         ensures size { (m : Rows) → IsSnapshotOf self.now m → result ≡ len m }
     {
-        match self.never {}
+        self.parts.len() as u64
     }
 
     pub fn scan(self, alloc: Global) -> Result<Scan<R>, (Snapshot<R>, ReadFault)>
@@ -67,7 +64,7 @@ impl<R: SealedReader> Snapshot<R> {
         ensures intact { IfErr result (λ e. OnDamage e.1 (λ damaged. (m : Rows) → IsSnapshotOf self m → ⊥)) }
     {
         let _alloc = alloc;
-        match self.never {}
+        Err((self, ReadFault::Memory))
     }
 }
 
@@ -82,12 +79,13 @@ impl<R: SealedReader> Scan<R> {
         ensures unfailed { IfOk result (λ row. self.new.fault ≡ None) }
     {
         let _alloc = alloc;
-        match self.never {}
+        self.fault = None;
+        Err(ReadFault::Memory)
     }
 
     pub fn into_snapshot(self) -> Snapshot<R>
         ensures { result ≡ self.snapshot }
     {
-        match self.never {}
+        self.snapshot
     }
 }

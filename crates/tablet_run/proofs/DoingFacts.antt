@@ -86,11 +86,11 @@ intact-turn (reply.NotYet v) n = tt
 intact-turn (reply.Busy v) n = tt
 intact-turn reply.ManyVersions n = tt
 intact-turn (reply.Closed at) n = tt
-intact-turn (reply.StoreFault n) n = tt
+intact-turn (reply.StoreFault k) n = tt
 intact-turn (reply.Damaged d) n = n d refl
 intact-turn reply.Memory n = tt
 intact-turn reply.NoPlan n = tt
-intact-turn (reply.Worn n) n = tt
+intact-turn (reply.Worn k) n = tt
 
 open-turn : (place : ℕ) (r : Reply) → TellsShut None r → GoesShut None (shut_by place r) (outcome.Turn r)
 open-turn place (reply.Published v) h = tt
@@ -158,7 +158,7 @@ opening-listed (reply.Busy v) h d = absurd d
 opening-listed reply.ManyVersions h d = absurd d
 opening-listed (reply.Closed at) h d = absurd d
 opening-listed (reply.StoreFault n) h d = absurd h
-opening-listed (reply.Damaged d) h d = absurd h
+opening-listed (reply.Damaged k) h d = absurd h
 opening-listed reply.Memory h d = refl
 opening-listed reply.NoPlan h d = absurd d
 opening-listed (reply.Worn n) h d = absurd h
@@ -215,11 +215,11 @@ scan-refused (reply.NotYet v) n = refl
 scan-refused (reply.Busy v) n = refl
 scan-refused reply.ManyVersions n = refl
 scan-refused (reply.Closed at) n = refl
-scan-refused (reply.StoreFault n) n = refl
+scan-refused (reply.StoreFault k) n = refl
 scan-refused (reply.Damaged d) n = refl
 scan-refused reply.Memory n = refl
 scan-refused reply.NoPlan n = refl
-scan-refused (reply.Worn n) n = refl
+scan-refused (reply.Worn k) n = refl
 
 -- a count closes nothing, uses no device and changes no book
 stat-shuts : (place : ℕ) (r : Reply) → IsStat r → shut_by place r ≡ None
@@ -259,7 +259,7 @@ stat-listed (reply.Busy v) h d = d
 stat-listed reply.ManyVersions h d = d
 stat-listed (reply.Closed at) h d = d
 stat-listed (reply.StoreFault n) h d = h
-stat-listed (reply.Damaged d) h d = h
+stat-listed (reply.Damaged k) h d = h
 stat-listed reply.Memory h d = h
 stat-listed reply.NoPlan h d = d
 stat-listed (reply.Worn n) h d = h
@@ -360,8 +360,10 @@ shut-here view s b seen c r h =
     let zero_less : length seen ≤ length seen = omega arith in
     let same : replay s b 1 seen ≡ book_at s b (seen ++ (c, r) ∷ []) (length seen) =
     ap (replay s b 1) (sym (take-append-le (length seen) seen ((c, r) ∷ []) zero_less ∙ take_all (length seen) seen zero_less)) in
-    subst (λ o. IsSomeAnd o (λ (e : Entry). EachImage view (StandsEither s (book_at s b (seen ++ (c, r) ∷ []) (length seen)) (suc (length seen)) e.0))) (sym (get-here seen (c, r) []))
-    (subst (λ d. EachImage view (StandsEither s d (suc (length seen)) c)) same h)
+    let back : suc (length seen) - 1 ≡ length seen = omega arith in
+    subst (λ k. IsSomeAnd (entry_at (seen ++ (c, r) ∷ []) (suc (length seen))) (λ (e : Entry). EachImage view (StandsEither s (book_at s b (seen ++ (c, r) ∷ []) k) (suc (length seen)) e.0))) (sym back)
+    (subst (λ o. IsSomeAnd o (λ (e : Entry). EachImage view (StandsEither s (book_at s b (seen ++ (c, r) ∷ []) (length seen)) (suc (length seen)) e.0))) (sym (get-here seen (c, r) []))
+    (subst (λ d. EachImage view (StandsEither s d (suc (length seen)) c)) same h))
 
 -- the book after one entry more
 pub replay-one : (s : Layout) (b : Book) (seen : List Entry) (place : ℕ) (c : Call) (r : Reply) → place ≡ length seen + 1

@@ -94,13 +94,14 @@ module _ {S : Type 0} (view : S → View) (j : FiledJob) (place : ℕ) (name : L
       → ((b : Book) → Has view old b → old.closed ≡ None → StandsThroughout old.contents.schema b place (call.Load load) (view old.store) (view new.store))
       → ((b : Book) → Has view old b → (d : Damaged) → r ≡ reply.Damaged d → ⊥)
       → TellsShut old.closed r → new.closed ≡ shut_after old.closed place r → ((p : ℕ) → old.closed ≡ Some p → new ≡ old)
-      → new.contents.schema ≡ old.contents.schema
+      → new.contents.schema ≡ old.contents.schema → (view new.store).is_honest ≡ (view old.store).is_honest
       → RoseBy (told_by_reply r) (faults_of view old) (faults_of view new)
       → Does view j place old new (faults_beside view old n) (faults_beside view new m) (record { turn = true; outcome = outcome.Turn r })
-  publish-does old new load r n m read same turn moment intact tells shut stays schema rose = record {
+  publish-does old new load r n m read same turn moment intact tells shut stays schema honest rose = record {
     schema = schema;
+    honest = honest;
     rose = subst (λ k. RoseBy (told_by (outcome.Turn r)) (faults_beside view old n) (faults_beside view new k)) (sym same)
-        (rose-beside (told_by (outcome.Turn r)) n (faults_of view old) (faults_of view new)
+        (rose-beside (told_by (outcome.Turn r)) n 0 (faults_of view old) (faults_of view new)
         (subst (λ k. RoseBy k (faults_of view old) (faults_of view new)) (sym (told-turn r)) rose));
     goes = subst (λ c. GoesShut old.closed c (outcome.Turn r)) (sym shut) (goes-turn old.closed place r tells);
     had = inr (
@@ -144,6 +145,7 @@ module _ {S : Type 0} (view : S → View) (j : FiledJob) (place : ℕ) (name : L
       → Does view j place old old (faults_beside view old n) (faults_beside view old m) (record { turn = false; outcome = outcome.Outside (outside_of_make f) })
   unmade-does old load f n m read counts same = record {
     schema = refl;
+    honest = refl;
     rose = by f counts same;
     goes = goes-on old.closed (outcome.Outside (outside_of_make f)) tt;
     had = inl (
@@ -170,6 +172,7 @@ module _ {S : Type 0} (view : S → View) (j : FiledJob) (place : ℕ) (name : L
       → Does view j place old old (faults_beside view old n) (faults_beside view old n) (record { turn = false; outcome = outcome.Load f })
   unread-does old file f n same told = record {
     schema = refl;
+    honest = refl;
     rose = rose-same (faults_of view old) n;
     goes = goes-on old.closed (outcome.Load f) tt;
     had = inl (
@@ -231,7 +234,8 @@ module _ {S : Type 0} (view : S → View) (j : FiledJob) (place : ℕ) (want : W
       let stays = opening-stays old.closed place (reply.Opened v) tt in
       record {
         schema = ap (λ c. c.schema) (rests.contents ∙ contents);
-        rose = rose-beside (told_by o) n (faults_of view old) (faults_of view new) (subst (λ k. RoseBy (told_by o) k (faults_of view new)) faults rose);
+        honest = rests.calm.honest ∙ calm.honest;
+        rose = rose-beside (told_by o) n 0 (faults_of view old) (faults_of view new) (subst (λ k. RoseBy (told_by o) k (faults_of view new)) faults rose);
         goes = subst (λ c. GoesShut old.closed c o) (sym same) (goes-on old.closed o (rows-open v o of).0);
         had = inr (
           refl,
@@ -272,7 +276,8 @@ module _ {S : Type 0} (view : S → View) (j : FiledJob) (place : ℕ) (want : W
       let rests : IsIdle view new new = record { has = λ b h. h; calm = calm-self; contents = refl; closed = refl } in
       record {
         schema = schema;
-        rose = rose-beside (told_by (outcome.Turn r)) n (faults_of view old) (faults_of view new)
+        honest = calm.honest;
+        rose = rose-beside (told_by (outcome.Turn r)) n 0 (faults_of view old) (faults_of view new)
             (subst (λ k. RoseBy (told_by (outcome.Turn r)) (faults_of view old) k) (sym faults) (subst (λ k. RoseBy k (faults_of view old) (faults_of view old)) (sym (opening-tells r only)) rose-self));
         goes = subst (λ c. GoesShut old.closed c (outcome.Turn r)) (sym shut) (goes-turn old.closed place r tells);
         had = inr (
@@ -311,6 +316,7 @@ module _ {S : Type 0} (view : S → View) (j : FiledJob) (place : ℕ) (is : j.j
       let stays = stat-stays st.closed place r only in
       record {
         schema = refl;
+        honest = refl;
         rose = subst (λ k. RoseBy k (faults_beside view st n) (faults_beside view st n)) (sym (stat-tells r only)) (rose-same (faults_of view st) n);
         goes = subst (λ c. GoesShut st.closed c (outcome.Turn r)) stays (goes-turn st.closed place r tells);
         had = inr (

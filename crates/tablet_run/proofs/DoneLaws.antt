@@ -1,7 +1,8 @@
 -- One job after the other, over a tablet.
 use Rattle.std.specs.List.{AllByRecursion}
-use Rattle.std.proofs.Common.{◌≡◌, refl, ap, sym, subst, ◌∙◌, ◌⊎◌, inl, inr, ℕ, ◌+◌, ◌≤◌, arith, List, [], ◌∷◌, ◌++◌, length, Option, Some, None, Bool as Truth, true, false, cond, length-append}
+use Rattle.std.proofs.Common.{◌≡◌, refl, ap, sym, subst, ◌∙◌, ◌⊎◌, inl, inr, ℕ, ◌+◌, ◌≤◌, arith, List, [], ◌∷◌, ◌++◌, length, Option, Some, None, Bool as Truth, true, false, cond, IsTrue, length-append}
 use Rattle.dev_traits.specs.Causes.{RoseBy}
+use Rattle.dev_traits.specs.Image.{Image}
 use Rattle.dev_traits.specs.View.{View, EachImage}
 use Rattle.pk_values.specs.Schemas.{Layout}
 use Rattle.pk_model.specs.declared.books.Book.{Book}
@@ -14,7 +15,7 @@ use Rattle.reports.specs.Bearing.{AreBorneOut, TellsIntact}
 use Rattle.reports.specs.Shutting.{shut_after}
 use Rattle.pk_model.specs.Books.{Entry, replay}
 use Rattle.reports.specs.Plain.{PhasesRise}
-use Rattle.reports.specs.Progress.{HasCome}
+use Rattle.reports.specs.Progress.{HasCome, IsRun}
 use Rattle.reports.specs.Notes.{turns_in}
 use Rattle.reports.proofs.BearingLaws.{borne-more, borne-none}
 use Rattle.reports.proofs.ProgressLaws.{add-none, add-one-turn, come-none}
@@ -32,6 +33,7 @@ module _ {S : Type 0} (view : S → View) (s : Layout) (opened : Shown S) where
   done-none before order outcomes schema unshut order_is outcomes_are =
       subst (λ os. HasDone view s opened opened before before [] order os) (sym outcomes_are) (subst (λ is. HasDone view s opened opened before before [] is []) (sym order_is) (record {
         schema = schema;
+        honest = refl;
         come = subst (λ c. HasCome s (HadBy view opened) (IsAfter view s opened) c [] [] []) (sym unshut)
             (come-none s (HadBy view opened) (IsAfter view s opened) (λ b has. record { has = has; shut = λ p e. absurd (none-some p (sym unshut ∙ e)) }));
         borne = subst (λ c. AreBorneOut before before c []) (sym unshut) (borne-none before before (omega arith));
@@ -59,6 +61,7 @@ module _ {S : Type 0} (view : S → View) (s : Layout) (opened : Shown S) where
       let sizes = ap length outcomes_are in
       record {
         schema = does.schema ∙ h.schema;
+        honest = does.honest ∙ h.honest;
         come = come;
         borne = subst (AreBorneOut start now new.closed) (sym outcomes_are) (borne-more start mid now old.closed new.closed outcomes d.outcome h.borne does.rose does.goes);
         few = few;
@@ -96,22 +99,27 @@ module _ {S : Type 0} (view : S → View) (s : Layout) (opened now : Shown S) (s
   pub done-runs : PhasesRise jobs → (left : View) → RoseBy 0 count left.faults
       → ((b : Book) → Has view now b → now.closed ≡ None → EachImage left (Stands s (durable b)))
       → ((p : ℕ) (b : Book) (seen : List Entry) → ShutStands (view now.store) s b seen p → ShutStands left s b seen p)
+      → (IsTrue left.is_honest → (image : Image) × (left.seen ≡ Some image) × left.may_leave image)
       → Runs s (HadBy view opened) start left jobs order outcomes
-  done-runs rise left counts stands shut = record {
+  done-runs rise left counts stands shut reads = record {
     turns = turns_in h.come.notes;
     entries = h.come.seen;
     closed = now.closed;
     order_is = h.come.gone.order_is;
     goes = come-goes s (HadBy view opened) (IsAfter view s now) now.closed jobs order outcomes h.come rise;
+    run = subst (AllByRecursion IsRun) (sym h.come.gone.outcomes_are) h.come.gone.run;
     shuts = h.come.shuts;
     borne = record { rose = let rose = h.borne.rose in omega (arith, counts, rose); shut = h.borne.shut; opened = h.borne.opened };
     over = λ b opens. let over = h.come.over b opens in record {
       run = come-runs s (HadBy view opened) (IsAfter view s now) now.closed jobs order outcomes h.come rise b over.0;
       intact = subst (AllByRecursion TellsIntact) (sym h.come.gone.outcomes_are) over.0.intact;
-      left = record {
+      images = record {
         opened = λ e. stands (replay s b 1 h.come.seen) over.1.has e;
         shut = λ p e. shut p b h.come.seen (over.1.shut p e);
       };
+      again = λ e honest. let read = reads honest in
+          let stood = stands (replay s b 1 h.come.seen) over.1.has e read.0 read.2 in
+          (read.0, record { honest = honest; seen = read.1 }, inr (durable (replay s b 1 h.come.seen), stood, refl));
     };
   }
 
@@ -128,6 +136,7 @@ runs-from view s store st left jobs order outcomes opened runs = record {
   closed = runs.closed;
   order_is = runs.order_is;
   goes = runs.goes;
+  run = runs.run;
   shuts = runs.shuts;
   borne = borne-earlier (view store).faults (faults_of view st) left.faults runs.closed outcomes opened.counts runs.borne;
   over = λ b opens. runs.over b (opened.books b opens);

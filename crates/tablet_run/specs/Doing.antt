@@ -1,8 +1,7 @@
 -- What the jobs of one lane do to a tablet over a store, one after the other.
-use Rattle.std.specs.Prelude.{◌≡◌, ◌⊎◌, ℕ, ◌+◌, ◌-◌, ◌^◌, ◌≤◌, min, List, [], ◌∷◌, ◌++◌, length, map, Option, Some, None, true, false, is_some, IsSomeAnd}
+use Rattle.std.specs.Prelude.{◌≡◌, ◌⊎◌, ℕ, ◌+◌, ◌-◌, ◌^◌, ◌≤◌, min, List, [], ◌∷◌, ◌++◌, length, map, Option, Some, None, true, false, IsSomeAnd}
 use Rattle.std.specs.List.{AllByRecursion}
 use Rattle.dev_traits.specs.Causes.{RoseBy}
-use Rattle.dev_traits.specs.Maker.{MakerView}
 use Rattle.dev_traits.specs.View.{View, EachImage}
 use Rattle.pk_values.specs.Schemas.{Layout}
 use Rattle.pk_model.specs.declared.books.Book.{Book}
@@ -63,17 +62,14 @@ pub record HadOne {S : Type 0} (view : S → View) (s : Layout) (j : FiledJob) (
   pub shut : new.closed ≡ shut_after old.closed place reply
   pub over : (b : Book) (seen : List Entry) → place ≡ length seen + 1 → IsAfter view s old b seen → Turns s (IsAfter view s new) b seen call reply o
 
--- What a job does at the next place: its schema stays, each fault that it tells was counted, and it had one turn or none.
+-- What a job does at the next place: the schema stays, and whether the store is honest; each fault that it tells was counted, and it had one turn or none.
 pub record Does {S : Type 0} (view : S → View) (j : FiledJob) (place : ℕ) (old new : Shown S) (before now : ℕ) (d : Done) : Type 0 where
   pub schema : new.contents.schema ≡ old.contents.schema
+  pub honest : (view new.store).is_honest ≡ (view old.store).is_honest
   pub rose : RoseBy (told_by d.outcome) before now
   pub goes : GoesShut old.closed new.closed d.outcome
   pub had : ((d.turn ≡ false) × HadNone view old.contents.schema j old new d.outcome)
       ⊎ ((d.turn ≡ true) × HadOne view old.contents.schema j place old new d.outcome)
-
--- a maker tells its bytes where the store does
-abbrev pub TellsWith : View → MakerView → Type 0
-TellsWith store maker = is_some store.seen ≡ true → is_some maker.made ≡ true
 
 -- ---- all jobs
 
@@ -84,6 +80,7 @@ HadBy view opened b = Has view opened b
 -- these jobs were done from a state on that was opened, and count faults from here on
 pub record HasDone {S : Type 0} (view : S → View) (s : Layout) (opened now : Shown S) (before count : ℕ) (jobs : List FiledJob) (order : List Item) (outcomes : List Outcome) : Type 0 where
   pub schema : now.contents.schema ≡ s
+  pub honest : (view now.store).is_honest ≡ (view opened.store).is_honest
   pub come : HasCome s (HadBy view opened) (IsAfter view s now) now.closed jobs order outcomes
   pub borne : AreBorneOut before count now.closed outcomes
   pub few : length order ≤ length jobs

@@ -13,6 +13,7 @@ use Rattle.script_text.specs.declared.outcomes.Outcome.{Outcome}
 use Rattle.reports.specs.declared.jobs.FiledJob.{FiledJob}
 use Rattle.reports.specs.declared.turns.Turn.{Turn}
 use Rattle.reports.specs.Bearing.{AreBorneOut, TellsIntact}
+use Rattle.reports.specs.Progress.{IsRun}
 use Rattle.reports.specs.Reports.{GoesBy, HasRun, item_of}
 use Rattle.reports.specs.Shutting.{ShutsBy}
 use Rattle.core_recover.specs.Opening.{HasNoRecord}
@@ -42,20 +43,22 @@ pub record IsLeft (view : View) (s : Layout) (b : Book) (entries : List Entry) (
   pub shut : (p : ℕ) → closed ≡ Some p → ShutStands view s b entries p
 
 -- The history of a run over one book: each reply is one that the book may give, the rows are the book's, no damage is told, and the store
--- that is left stands for what the history makes of the book.
+-- that is left stands for what the history makes of the book. Where no fault closed the tablet, it is opened again with that book.
 pub record RunsOver (s : Layout) (b : Book) (jobs : List FiledJob) (turns : List Turn) (entries : List Entry) (outcomes : List Outcome) (closed : Option ℕ) (left : View) : Type 0 where
   pub run : HasRun s b jobs turns entries outcomes
   pub intact : AllByRecursion TellsIntact outcomes
-  pub left : IsLeft left s b entries closed
+  pub images : IsLeft left s b entries closed
+  pub again : closed ≡ None → IsTrue left.is_honest → Opens left s (durable (replay s b 1 entries))
 
 -- A run of jobs over a store that begins with one of these books, from this count of its faults on. Over every store the turns fit the script,
--- each reply tells that the tablet was closed exactly where an earlier one closed it, and the faults that are told were counted.
+-- each job is run, each reply tells that the tablet was closed exactly where an earlier one closed it, and the faults that are told were counted.
 pub record Runs (s : Layout) (Opened : Book → Type 0) (before : ℕ) (left : View) (jobs : List FiledJob) (order : List Item) (outcomes : List Outcome) : Type 0 where
   pub turns : List Turn
   pub entries : List Entry
   pub closed : Option ℕ
   pub order_is : order ≡ map item_of turns
   pub goes : GoesBy s jobs turns entries outcomes
+  pub run : AllByRecursion IsRun outcomes
   pub shuts : ShutsBy None 1 entries closed
   pub borne : AreBorneOut before left.faults closed outcomes
   pub over : (b : Book) → Opened b → RunsOver s b jobs turns entries outcomes closed left

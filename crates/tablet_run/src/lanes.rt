@@ -13,7 +13,7 @@ ghost use Rattle.snapshot_scan.specs.Scans.{AreToCome};
 ghost use Rattle.snapshot_scan.specs.Snapshots.{IsSnapshotOf};
 ghost use Rattle.tablet_state.specs.State.{faults_of};
 ghost use Rattle.tablet_run.specs.Asks.{is_built};
-ghost use Rattle.tablet_run.specs.Doing.{Does, HasDone, TellsWith, faults_beside};
+ghost use Rattle.tablet_run.specs.Doing.{Does, HasDone, faults_beside};
 ghost use Rattle.tablet_run.specs.Scanning.{IsIdle, RowsTold};
 
 use crate::scanning::text_of_rows;
@@ -45,9 +45,7 @@ fn publish_load<S: Store>(
 ) -> Done
     requires lawful { IsLawful state.old.contents.schema load }
     requires whole { load.given ≡ others state.old.contents.schema }
-    requires tells { TellsWith (S.view state.old.store) (S.Maker.view maker.old) }
-    ensures tells { TellsWith (S.view state.new.store) (S.Maker.view maker.new) }
-    ensures does { (j : FiledJob) (name : List ℕ) → j.job.act ≡ JobAct.Load name → load_in state.old.contents.schema j ≡ Ok load
+    ensures { (j : FiledJob) (name : List ℕ) → j.job.act ≡ JobAct.Load name → load_in state.old.contents.schema j ≡ Ok load
         → Does S.view j place state.old state.new (faults_beside S.view state.old (S.Maker.view maker.old).faults)
         (faults_beside S.view state.new (S.Maker.view maker.new).faults) result }
 {
@@ -73,9 +71,7 @@ fn load_file<S: Store>(
     place: u64,
 ) -> Done
     requires within { length file.now ≤ 67108864 }
-    requires tells { TellsWith (S.view state.old.store) (S.Maker.view maker.old) }
-    ensures tells { TellsWith (S.view state.new.store) (S.Maker.view maker.new) }
-    ensures does { (j : FiledJob) (name : List ℕ) → j.job.act ≡ JobAct.Load name → j.file ≡ file.now
+    ensures { (j : FiledJob) (name : List ℕ) → j.job.act ≡ JobAct.Load name → j.file ≡ file.now
         → Does S.view j place state.old state.new (faults_beside S.view state.old (S.Maker.view maker.old).faults)
         (faults_beside S.view state.new (S.Maker.view maker.new).faults) result }
 {
@@ -138,18 +134,19 @@ fn rows_told<S: Store>(
 
 // Scans a version.
 fn scan_version<S: Store>(alloc: Global, state: &mut State<S>, want: Want, place: u64) -> Done
-    ensures seen { (S.view state.new.store).seen ≡ (S.view state.old.store).seen }
-    ensures does { (j : FiledJob) (n : ℕ) → j.job.act ≡ JobAct.Scan want
+    ensures { (j : FiledJob) (n : ℕ) → j.job.act ≡ JobAct.Scan want
         → Does S.view j place state.old state.new (faults_beside S.view state.old n) (faults_beside S.view state.new n) result }
 {
     let (reply, opened) = open_version(alloc, state, want);
-    let outcome = match opened {
-        Some(snapshot) => rows_told(alloc, state, snapshot),
-        None => Outcome::Turn(reply),
-    };
-    Done {
-        turn: true,
-        outcome,
+    match opened {
+        Some(snapshot) => Done {
+            turn: true,
+            outcome: rows_told(alloc, state, snapshot),
+        },
+        None => Done {
+            turn: true,
+            outcome: Outcome::Turn(reply),
+        },
     }
 }
 
@@ -174,9 +171,7 @@ fn do_job<S: Store>(
 ) -> Done
     requires built { is_built job.now.job ≡ true }
     requires within { HasFewBytes job.now }
-    requires tells { TellsWith (S.view state.old.store) (S.Maker.view maker.old) }
-    ensures tells { TellsWith (S.view state.new.store) (S.Maker.view maker.new) }
-    ensures does { Does S.view job.now place state.old state.new (faults_beside S.view state.old (S.Maker.view maker.old).faults)
+    ensures { Does S.view job.now place state.old state.new (faults_beside S.view state.old (S.Maker.view maker.old).faults)
         (faults_beside S.view state.new (S.Maker.view maker.new).faults) result }
 {
     match &job.job.act {
@@ -226,7 +221,6 @@ pub fn run_lane<S: Store>(
     requires built { AllByRecursion (λ j. is_built j.job ≡ true) jobs.now }
     requires within { AllByRecursion HasFewBytes jobs.now }
     requires open { state.old.closed ≡ None }
-    requires tells { TellsWith (S.view state.old.store) (S.Maker.view maker.old) }
     ensures done { IfOk result (λ told. HasDone S.view state.old.contents.schema state.old state.new
         (faults_beside S.view state.old (S.Maker.view maker.old).faults) (faults_beside S.view state.new (S.Maker.view maker.new).faults)
         jobs.now told.order told.outcomes) }

@@ -22,8 +22,10 @@ fn create_tablet<S: Store>(alloc: Global, store: S, schema: &Schema) -> Result<S
     };
     match create(alloc, store, copy) {
         Ok(state) => Ok(state),
-        Err((store, OpenFault::StoreFault)) => Err((store, Cause::Store)),
-        Err((store, _)) => Err((store, Cause::Memory)),
+        Err((store, fault)) => match fault {
+            OpenFault::StoreFault => Err((store, Cause::Store)),
+            _ => Err((store, Cause::Memory)),
+        },
     }
 }
 
@@ -34,10 +36,12 @@ fn find_tablet<S: Store>(alloc: Global, store: S, schema: &Schema) -> Result<Sta
 {
     match recover(alloc, store) {
         Ok(state) => Ok(state),
-        Err((store, OpenFault::Empty)) => create_tablet(alloc, store, schema),
-        Err((store, OpenFault::Damaged(damaged))) => Err((store, Cause::Damaged(damaged))),
-        Err((store, OpenFault::StoreFault)) => Err((store, Cause::Store)),
-        Err((store, OpenFault::Memory)) => Err((store, Cause::Memory)),
+        Err((store, fault)) => match fault {
+            OpenFault::Empty => create_tablet(alloc, store, schema),
+            OpenFault::Damaged(damaged) => Err((store, Cause::Damaged(damaged))),
+            OpenFault::StoreFault => Err((store, Cause::Store)),
+            OpenFault::Memory => Err((store, Cause::Memory)),
+        },
     }
 }
 

@@ -1,4 +1,4 @@
-ghost use Rattle.std.specs.Prelude.{◌≡◌, ◌≤◌, ⊥, ℕ, List, Option, Some, None, length, true, IfSome, IfNone};
+ghost use Rattle.std.specs.Prelude.{◌≡◌, ◌≤◌, ℕ, List, Option, Some, None, length, true, IfSome, IfNone};
 ghost use Rattle.std.specs.List.{AllByRecursion};
 ghost use Rattle.command_line.specs.Words.{texts};
 ghost use Rattle.dev_traits.specs.Causes.{RoseBy};
@@ -72,7 +72,7 @@ fn run_jobs<S: Store>(alloc: Global, mut state: State<S>, jobs: &[FiledJob]) -> 
     requires open { state.closed ≡ None }
     ensures ran { IfSome result.told (λ told. Runs state.contents.schema (HadBy S.view state) (faults_of S.view state) (S.view result.store) jobs.now told.order told.outcomes) }
     ensures kept { IfNone result.told ((b : Book) → Has S.view state b → EachImage (S.view result.store) (Stands state.contents.schema (durable b))) }
-    ensures honest { IfNone result.told ((S.view result.store).is_honest ≡ (S.view state.store).is_honest) }
+    ensures honest { (S.view result.store).is_honest ≡ (S.view state.store).is_honest }
 {
     let mut maker = match state.lane_maker() {
         Ok(maker) => maker,
@@ -108,6 +108,7 @@ fn serve<O: Sink, S: Store>(alloc: Global, asked: &Asked, out: &mut O, store: S)
         → Ends (record { files = files; words = words; before = O.held out.old; now = O.held out.new; store = S.view store; left = S.view result.store }) result.cause }
     ensures inputs { (count : ℕ) → InputCause count count result.cause }
     ensures sink { SinkCause (O.faults out.old) (O.faults out.new) result.cause }
+    ensures honest { (S.view result.store).is_honest ≡ (S.view store).is_honest }
 {
     let state = match open_tablet(alloc, store, &asked.schema) {
         Ok(state) => state,
@@ -133,6 +134,7 @@ fn attempt<'a, I: Inputs, O: Sink, S: Store>(
     ensures ends { Ends (record { files = I.files inputs.old; words = texts words.entry.now; before = O.held out.old; now = O.held out.new; store = S.view store; left = S.view result.store }) result.cause }
     ensures inputs { InputCause (I.faults inputs.old) (I.faults inputs.new) result.cause }
     ensures sink { SinkCause (O.faults out.old) (O.faults out.new) result.cause }
+    ensures honest { (S.view result.store).is_honest ≡ (S.view store).is_honest }
 {
     match find_jobs(alloc, words, inputs) {
         Ok(asked) => serve(alloc, &asked, out, store),
@@ -164,6 +166,7 @@ pub fn run<'a, I: Inputs, O: Sink, S: Store>(
     ensures ends { Ends (record { files = I.files inputs.old; words = texts words.entry.now; before = O.held out.old; now = O.held out.new; store = S.view store; left = S.view result.store }) result.cause }
     ensures inputs { InputCause (I.faults inputs.old) (I.faults inputs.new) result.cause }
     ensures sink { SinkCause (O.faults out.old) (O.faults out.new) result.cause }
+    ensures honest { (S.view result.store).is_honest ≡ (S.view store).is_honest }
     ensures counted { result.cause ≡ Cause.Store → RoseBy 1 (S.view store).faults (S.view result.store).faults }
     ensures intact { (d : Damaged) → result.cause ≡ Cause.Damaged d → StandsForNone (S.view store) }
 

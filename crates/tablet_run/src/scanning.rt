@@ -1,4 +1,4 @@
-ghost use Rattle.std.specs.Prelude.{◌≡◌, ◌≤◌, ◌++◌, ⊥, IsTrue, List, length, None, IfOk, IfErr, OnOk};
+ghost use Rattle.std.specs.Prelude.{◌≡◌, ◌≤◌, ◌++◌, IsTrue, List, length, None, IfOk, IfErr, OnOk};
 ghost use Rattle.dev_traits.specs.declared.faults.Damaged.{Damaged};
 ghost use Rattle.dev_traits.specs.declared.faults.OutsideFault.TheVariants as outside;
 ghost use Rattle.pk_values.specs.Schemas.{Layout, fits_row};
@@ -77,7 +77,11 @@ pub fn text_of_rows<R: SealedReader>(
 {
     let mut text = Vec::new(alloc);
     for i in 0..count {
-        if !put_next(alloc, scan, &mut text)? {
+        let more = match put_next(alloc, scan, &mut text) {
+            Ok(more) => more,
+            Err(fault) => return Err(fault),
+        };
+        if !more {
             return octets_of(alloc, text);
         }
     }

@@ -1,3 +1,4 @@
+pub mod Codes
 pub mod Contents
 pub mod Stands
 pub mod State

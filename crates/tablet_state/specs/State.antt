@@ -1,5 +1,5 @@
 -- A STUB.
-use Rattle.std.specs.Prelude.{◌≡◌, ℕ, ◌+◌, ◌-◌, ◌^◌, min, Some, None}
+use Rattle.std.specs.Prelude.{◌≡◌, ℕ, ◌+◌, ◌-◌, ◌^◌, min, Option, Some, None}
 use Rattle.pk_values.specs.Schemas.{Layout}
 use Rattle.dev_traits.specs.View.{View, EachImage, LeavesOnly, Calm}
 use Rattle.pk_model.specs.declared.books.Book.{Book}
@@ -7,10 +7,14 @@ use Rattle.pk_model.specs.declared.calls.Call.{Call}
 use Rattle.pk_model.specs.declared.calls.Reply.{Reply}
 use Rattle.pk_model.specs.Books.{MayReply, next}
 use Rattle.tablet_state.specs.Turns.{StandsEither}
-use Rattle.tablet_state.specs.declared.state.State.{State}
+use Rattle.tablet_state.specs.Contents.{Contents}
 
-abbrev pub Shown : Type 0 → Type 0
-Shown S = State S
+pub record Shown (S : Type 0) : Type 0 where
+  pub store : S
+  pub maker_faults : ℕ
+  pub segments : ℕ
+  pub contents : Contents
+  pub closed : Option ℕ
 
 pub record Has {S : Type 0} (view : S → View) (st : Shown S) (b : Book) : Type 0 where
   pub same : st.closed ≡ b.closed

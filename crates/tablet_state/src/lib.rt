@@ -4,4 +4,4 @@
 mod hands;
 mod state;
 
-pub use state::{Contents, State};
+pub use state::State;

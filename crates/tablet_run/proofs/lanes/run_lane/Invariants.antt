@@ -1,5 +1,5 @@
-use Rattle.std.proofs.Common.{◌≡◌, length, take, vec_capacity}
-use Rattle.tablet_run.specs.Doing.{HasDone, TellsWith, faults_beside}
+use Rattle.std.proofs.Common.{◌≡◌, ◌≤◌, length, take, vec_capacity}
+use Rattle.tablet_run.specs.Doing.{HasDone, faults_beside}
 use Rattle.tablet_run.proofs.lanes.run_lane.Given as goal
 
 abbrev pub invariant-loop-i : goal.invariant-loop-i
@@ -8,7 +8,6 @@ invariant-loop-i g l = record {
       (faults_beside g.S.Store.view l.initial.state (g.S.Maker.FileMaker.view l.initial.maker).faults)
       (faults_beside g.S.Store.view l.state (g.S.Maker.FileMaker.view l.maker).faults)
       (take l.i l.jobs) l.order.items l.outcomes.items;
-  tells : TellsWith (g.S.Store.view l.state.store) (g.S.Maker.FileMaker.view l.maker);
-  order_room : vec_capacity l.order ≡ length l.jobs;
-  outcomes_room : vec_capacity l.outcomes ≡ length l.jobs;
+  order_room : length l.jobs ≤ vec_capacity l.order;
+  outcomes_room : length l.jobs ≤ vec_capacity l.outcomes;
 }

@@ -1,5 +1,5 @@
 use Rattle.std.proofs.Common.{inl, arith}
-use Rattle.core_recover.proofs.recover.create.Goals as goal
+use Rattle.core_recover.proofs.openings.create.Goals as goal
 
 pub returns-clause-any_moment : goal.returns-clause-any_moment
 returns-clause-any_moment g c = λ honest. record {

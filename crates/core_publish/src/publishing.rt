@@ -1,4 +1,4 @@
-ghost use Rattle.std.specs.Prelude.{◌≡◌, ⊥, ℕ, IfSome, IfNone, Some, None, is_some, true, false};
+ghost use Rattle.std.specs.Prelude.{◌≡◌, ℕ, IfSome, IfNone, Some, None, is_some, false};
 ghost use Rattle.dev_traits.specs.Causes.{RoseBy};
 ghost use Rattle.dev_traits.specs.View.{Calm};
 ghost use Rattle.dev_traits.specs.declared.faults.Damaged.{Damaged};
@@ -10,7 +10,6 @@ ghost use Rattle.pk_model.specs.declared.calls.Reply.TheVariants as reply;
 ghost use Rattle.snapshot_scan.specs.Snapshots.{IsSnapshotOf};
 ghost use Rattle.tablet_state.specs.State.{Has, Steps, StandsThroughout, faults_of};
 ghost use Rattle.tablet_state.specs.Contents.{worn_of};
-ghost use Rattle.core_publish.specs.Prepared.{EachTells};
 ghost use Rattle.core_publish.specs.Replies.{IsOpening, IsStat, TellsShut, shut_after, told_by_reply};
 
 use crate::Prepared;
@@ -28,8 +27,8 @@ pub fn publish<S: Store>(
 ) -> Reply
     requires unspent { prepared.old.spent ≡ false }
     requires schema { prepared.old.schema ≡ state.old.contents.schema }
-    requires told { is_some (S.view state.old.store).seen ≡ true → EachTells true prepared.old.files }
     ensures told { is_some (S.view state.new.store).seen ≡ is_some (S.view state.old.store).seen }
+    ensures honest { (S.view state.new.store).is_honest ≡ (S.view state.old.store).is_honest }
     ensures turn { (b : Book) → Has S.view state.old b → Steps S.view state.new b seq (call.Load prepared.old.load) result }
     ensures any_moment { (b : Book) → Has S.view state.old b → state.old.closed ≡ None
         → StandsThroughout state.old.contents.schema b seq (call.Load prepared.old.load) (S.view state.old.store) (S.view state.new.store) }
@@ -37,12 +36,12 @@ pub fn publish<S: Store>(
     ensures tells { TellsShut state.old.closed result }
     ensures shut { state.new.closed ≡ shut_after state.old.closed seq result }
     ensures closed { (p : ℕ) → state.old.closed ≡ Some p → state.new ≡ state.old }
-    ensures contents { state.new.contents.schema ≡ state.old.contents.schema }
+    ensures schemas { state.new.contents.schema ≡ state.old.contents.schema }
     ensures faults { RoseBy (told_by_reply result) (faults_of S.view state.old) (faults_of S.view state.new) }
     ensures worn { (n : ℕ) → result ≡ reply.Worn n → (worn_of state.old.contents ≡ Some n) × (state.new ≡ state.old) }
     ensures stays_worn { (n : ℕ) → state.old.closed ≡ None → worn_of state.old.contents ≡ Some n → result ≡ reply.Worn n }
 {
-    let _ = (alloc, seq, prepared);
+    let _ = (alloc, seq);
     match state.never {}
 }
 

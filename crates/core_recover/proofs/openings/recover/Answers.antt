@@ -1,5 +1,5 @@
 use Rattle.std.proofs.Common.{inl, arith}
-use Rattle.core_recover.proofs.recover.recover.Goals as goal
+use Rattle.core_recover.proofs.openings.recover.Goals as goal
 
 pub returns-clause-any_moment : goal.returns-clause-any_moment
 returns-clause-any_moment g c = λ honest image seen s b stands. record {
