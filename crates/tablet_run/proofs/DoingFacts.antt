@@ -334,14 +334,14 @@ opened-answer b w v h = elim h [
 
 -- ---- a tablet after one entry more
 
-calm-each : (P : Image → Type 0) (old new : View) → Calm old new → EachImage old P → EachImage new P
+pub calm-each : (P : Image → Type 0) (old new : View) → Calm old new → EachImage old P → EachImage new P
 calm-each P old new calm h = λ image left. h image ((calm.now image).0 left)
 
 on-some : {X : Type 0} (P Q : X → Type 0) (o : Option X) → ((x : X) → P x → Q x) → IsSomeAnd o P → IsSomeAnd o Q
 on-some P Q None f h = h
 on-some P Q (Some x) f h = f x h
 
-calm-shut : (old new : View) → Calm old new → (s : Layout) (b : Book) (seen : List Entry) (p : ℕ) → ShutStands old s b seen p → ShutStands new s b seen p
+pub calm-shut : (old new : View) → Calm old new → (s : Layout) (b : Book) (seen : List Entry) (p : ℕ) → ShutStands old s b seen p → ShutStands new s b seen p
 calm-shut old new calm s b seen p h =
     on-some (λ (e : Entry). EachImage old (StandsEither s (book_at s b seen (p - 1)) p e.0)) (λ (e : Entry). EachImage new (StandsEither s (book_at s b seen (p - 1)) p e.0))
     (entry_at seen p) (λ e k. calm-each (StandsEither s (book_at s b seen (p - 1)) p e.0) old new calm k) h

@@ -1,9 +1,9 @@
 -- One job after the other, over a tablet.
 use Rattle.std.specs.List.{AllByRecursion}
-use Rattle.std.proofs.Common.{◌≡◌, refl, ap, sym, subst, ◌∙◌, ◌⊎◌, inl, inr, ℕ, ◌+◌, ◌≤◌, arith, List, [], ◌∷◌, ◌++◌, length, Option, Some, None, Bool as Truth, true, false, cond, IsTrue, length-append}
-use Rattle.dev_traits.specs.Causes.{RoseBy}
+use Rattle.std.proofs.Common.{◌≡◌, refl, ap, sym, subst, ◌∙◌, ◌⊎◌, inl, inr, ℕ, ◌+◌, ◌-◌, ◌^◌, ◌≤◌, min, arith, List, [], ◌∷◌, ◌++◌, length, Option, Some, None, Bool as Truth, true, false, cond, IsTrue, length-append}
+use Rattle.dev_traits.specs.Causes.{Counts, RoseBy}
 use Rattle.dev_traits.specs.Image.{Image}
-use Rattle.dev_traits.specs.View.{View, EachImage}
+use Rattle.dev_traits.specs.View.{Calm, View, EachImage}
 use Rattle.pk_values.specs.Schemas.{Layout}
 use Rattle.pk_model.specs.declared.books.Book.{Book}
 use Rattle.pk_model.specs.Durable.{durable}
@@ -21,10 +21,11 @@ use Rattle.reports.proofs.BearingLaws.{borne-more, borne-none}
 use Rattle.reports.proofs.ProgressLaws.{add-none, add-one-turn, come-none}
 use Rattle.reports.proofs.ProgressRuns.{come-goes, come-runs}
 use Rattle.tablet_state.specs.Stands.{Stands}
-use Rattle.tablet_state.specs.State.{Has, Shown, faults_of}
-use Rattle.tablet_run.specs.Doing.{Does, HadBy, HadNone, HadOne, HasDone, IsAfter, ShutStands}
+use Rattle.tablet_state.specs.State.{Has, Rests, Shown, faults_of, reader_faults}
+use Rattle.tablet_run.specs.Doing.{Does, HadBy, HadNone, HadOne, HasDone, IsAfter, ShutStands, faults_beside}
 use Rattle.tablet_run.specs.Stores.{HasOpened, Opens, Runs}
 use Rattle.tablet_run.specs.declared.lanes.Done.{Done}
+use Rattle.tablet_run.proofs.DoingFacts.{calm-shut}
 
 module _ {S : Type 0} (view : S → View) (s : Layout) (opened : Shown S) where
   -- no job was done
@@ -141,3 +142,61 @@ runs-from view s store st left jobs order outcomes opened runs = record {
   borne = borne-earlier (view store).faults (faults_of view st) left.faults runs.closed outcomes opened.counts runs.borne;
   over = λ b opens. runs.over b (opened.books b opens);
 }
+
+-- ---- a lane over a tablet, which is given up behind it
+
+count-left : (sf mf rf a left : ℕ) → min (sf + mf + rf) (2 ^ 64 - 1) ≡ a → Counts (mf + rf) sf left → RoseBy 0 a left
+count-left sf mf rf a left e h = omega (arith, e, h)
+
+count-begun : (f0 f1 m1 : ℕ) → f1 ≡ f0 → RoseBy 0 f0 (min (f1 + m1) (2 ^ 64 - 1))
+count-begun f0 f1 m1 e = omega (arith, e)
+
+module _ {S : Type 0} (view : S → View) (st0 st1 st2 st3 : Shown S) (rests : Rests view st0 st1) (has : (b : Book) → Has view st0 b → Has view st1 b)
+    (over_rests : Rests view st2 st3) (over_has : (b : Book) → Has view st2 b → Has view st3 b) (left : View) (calm : Calm (view st3.store) left)
+    (stands : (b : Book) → Has view st3 b → st3.closed ≡ None → EachImage left (Stands st3.contents.schema (durable b))) where
+  -- the lane did its jobs
+  pub lane-runs : (m1 m2 : ℕ) (jobs : List FiledJob) (order : List Item) (outcomes : List Outcome)
+      → faults_of view st1 ≡ faults_of view st0
+      → HasDone view st1.contents.schema st1 st2 (faults_beside view st1 m1) (faults_beside view st2 m2) jobs order outcomes
+      → PhasesRise jobs
+      → faults_of view st3 ≡ faults_beside view st2 m2
+      → Counts (st3.maker_faults + reader_faults st3.segments) (view st3.store).faults left.faults
+      → (IsTrue left.is_honest → (image : Image) × (left.seen ≡ Some image) × left.may_leave image)
+      → Runs st0.contents.schema (HadBy view st0) (faults_of view st0) left jobs order outcomes
+  lane-runs m1 m2 jobs order outcomes faults h rise after counts reads = subst (λ s. Runs s (HadBy view st0) (faults_of view st0) left jobs order outcomes) begun (record {
+    turns = base.turns;
+    entries = base.entries;
+    closed = base.closed;
+    order_is = base.order_is;
+    goes = base.goes;
+    run = base.run;
+    shuts = base.shuts;
+    borne = borne-earlier (faults_of view st0) (faults_beside view st1 m1) left.faults base.closed outcomes (count-begun (faults_of view st0) (faults_of view st1) m1 faults) base.borne;
+    over = λ b had. base.over b (has b had);
+  })
+    where
+      begun : st1.contents.schema ≡ st0.contents.schema
+      begun = ap (λ c. c.schema) rests.contents
+
+      kept : st3.contents.schema ≡ st1.contents.schema
+      kept = ap (λ c. c.schema) over_rests.contents ∙ h.schema
+
+      base : Runs st1.contents.schema (HadBy view st1) (faults_beside view st1 m1) left jobs order outcomes
+      base = done-runs view st1.contents.schema st1 st2 (faults_beside view st1 m1) (faults_beside view st2 m2) jobs order outcomes h rise left
+          (count-left (view st3.store).faults st3.maker_faults (reader_faults st3.segments) (faults_beside view st2 m2) left.faults after counts)
+          (λ b had open. subst (λ t. EachImage left (Stands t (durable b))) kept (stands b (over_has b had) (over_rests.closed ∙ open)))
+          (λ p b seen shut. calm-shut (view st3.store) left calm st1.contents.schema b seen p (calm-shut (view st2.store) (view st3.store) over_rests.calm st1.contents.schema b seen p shut))
+          reads
+
+  -- the lane did none, and the tablet is as it was
+  pub lane-kept : st2 ≡ st1 → st0.closed ≡ None → (b : Book) → Has view st0 b → EachImage left (Stands st0.contents.schema (durable b))
+  lane-kept same open b had =
+      subst (λ t. EachImage left (Stands t (durable b))) (ap (λ c. c.schema) over_rests.contents ∙ ap (λ (st : Shown S). st.contents.schema) same ∙ ap (λ c. c.schema) rests.contents)
+      (stands b (over_has b (subst (λ st. Has view st b) (sym same) (has b had))) (over_rests.closed ∙ ap (λ (st : Shown S). st.closed) same ∙ rests.closed ∙ open))
+
+-- no lane was begun
+pub unbegun-kept : {S : Type 0} (view : S → View) (st0 st1 : Shown S) (left : View) → Rests view st0 st1 → ((b : Book) → Has view st0 b → Has view st1 b)
+    → ((b : Book) → Has view st1 b → st1.closed ≡ None → EachImage left (Stands st1.contents.schema (durable b)))
+    → st0.closed ≡ None → (b : Book) → Has view st0 b → EachImage left (Stands st0.contents.schema (durable b))
+unbegun-kept view st0 st1 left rests has stands open b had =
+    subst (λ t. EachImage left (Stands t (durable b))) (ap (λ c. c.schema) rests.contents) (stands b (has b had) (rests.closed ∙ open))

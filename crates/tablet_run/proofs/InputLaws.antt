@@ -55,7 +55,7 @@ plan-stops files words table script cause.None t h = cc
 plan-stops files words table script cause.Refused t h = cc
 plan-stops files words table script cause.Words t h = cc
 plan-stops files words table script cause.Sink t h = cc
-plan-stops files words table script (cause.OtherSchema t) t h = cc
+plan-stops files words table script (cause.OtherSchema k) t h = cc
 plan-stops files words table script cause.Store t h = cc
 plan-stops files words table script (cause.Damaged d) t h = cc
 

@@ -160,5 +160,5 @@ unmade view j place name is old load f told n m read same counts stays =
 pub well-made : {T : Type 0} (x : T) (n m : ℕ) → HasMakeCause n m (Ok x) → m ≡ n
 well-made x n m h = h.well (λ e. cc e)
 
-pub failed-made : {T : Type 0} (f : MakeFault) (n m : ℕ) → HasMakeCause {T} n m (Err f) → (f ≡ make.StoreFault → Counts 1 n m) × ((f ≡ make.StoreFault → ⊥) → m ≡ n)
+pub failed-made : {T : Type 0} (f : MakeFault) (n m : ℕ) → HasMakeCause {T = T} n m (Err f) → (f ≡ make.StoreFault → Counts 1 n m) × ((f ≡ make.StoreFault → ⊥) → m ≡ n)
 failed-made f n m h = (λ e. h.failed (ap Err e), λ other. h.well (λ e. other (cc e)))

@@ -1,5 +1,5 @@
 -- How a store is opened, or refused and kept.
-use Rattle.std.proofs.Common.{◌≡◌, ◌≢◌, refl, ap, sym, subst, ◌∙◌, ◌⊎◌, inl, inr, ℕ, ◌+◌, ◌≤◌, arith, Option, Some, None, IsTrue}
+use Rattle.std.proofs.Common.{◌≡◌, ◌≢◌, refl, ap, sym, subst, ◌∙◌, ◌⊎◌, inl, inr, ℕ, ◌+◌, ◌≤◌, arith, Option, Some, None, IsTrue, Bool as Truth, true, false}
 use Rattle.dev_traits.specs.Causes.{RoseBy}
 use Rattle.dev_traits.specs.Image.{Image}
 use Rattle.dev_traits.specs.View.{View, Told, EachImage, LeavesOnly}
@@ -48,6 +48,14 @@ module _ (s : Layout) (old new : View) where
     ],
     λ image t b reads stands. want (intact reads.honest image reads.seen t b stands),
   )
+
+-- a store that was empty, and is made a tablet, or not
+pub made-new : (s t : Layout) (old new : View) → t ≡ s → new.is_honest ≡ old.is_honest
+    → (IsTrue old.is_honest → LeavesOnly (λ left. HasNoRecord left ⊎ Stands t new_book left) old new) → IsNew s old new
+made-new s t old new same honest leaves = record {
+  honest = honest;
+  each = λ h. subst (λ u. EachImage new (λ left. HasNoRecord left ⊎ Stands u new_book left)) same (leaves h).now;
+}
 
 later : (before mid now : ℕ) (least : ℕ) → RoseBy 0 before mid → RoseBy least mid now → RoseBy least before now
 later before mid now least h k = omega (arith, h, k)
@@ -129,3 +137,10 @@ opened-kept view s store st left opened honest stands = record {
   book = λ image t b reads is. λ i h. inr (subst (λ u. Stands u (durable b) i) (opened.schema ∙ sym (opened.table image t b reads is)) (stands (durable b) (opened.kept image t b reads is) i h));
   none = λ image reads none. λ i h. inr (inr (subst (λ u. Stands u (durable new_book) i) opened.schema (stands new_book (opened.books new_book (image, reads, inl (none, refl))) i h)));
 }
+
+-- two tables that were found to differ
+pub differs : (t u s : Layout) (same : Truth) → u ≡ t → (u ≡ s → IsTrue same) → same ≡ false → t ≡ s → ⊥
+differs t u s same is tells no e = absurd (other (sym (tells (is ∙ e)) ∙ no))
+  where
+    other : true ≡ false → ⊥
+    other e = cc

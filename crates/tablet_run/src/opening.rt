@@ -64,11 +64,10 @@ pub fn open_tablet<S: Store>(
     if state.schema().is_same(schema) {
         return Ok(state);
     }
-    match state.schema().copy(alloc) {
-        Ok(other) => Err((
-            state.into_store(),
-            Cause::OtherSchema(StoredTable { schema: other }),
-        )),
-        Err(_) => Err((state.into_store(), Cause::Memory)),
+    let other = state.schema().copy(alloc);
+    let left = state.into_store();
+    match other {
+        Ok(schema) => Err((left, Cause::OtherSchema(StoredTable { schema }))),
+        Err(_) => Err((left, Cause::Memory)),
     }
 }

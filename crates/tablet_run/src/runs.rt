@@ -85,9 +85,16 @@ fn run_jobs<S: Store>(alloc: Global, mut state: State<S>, jobs: &[FiledJob]) -> 
     };
     let told = run_lane(alloc, &mut state, &mut maker, jobs);
     state.give_back(maker);
-    Ran {
-        store: state.into_store(),
-        told: told.ok(),
+    let left = state.into_store();
+    match told {
+        Ok(told) => Ran {
+            store: left,
+            told: Some(told),
+        },
+        Err(_) => Ran {
+            store: left,
+            told: None,
+        },
     }
 }
 
@@ -115,11 +122,16 @@ fn serve<O: Sink, S: Store>(alloc: Global, asked: &Asked, out: &mut O, store: S)
         Err((store, cause)) => return Left { cause, store },
     };
     let Ran { store, told } = run_jobs(alloc, state, &asked.jobs);
-    let cause = match told {
-        Some(told) => tell(alloc, out, &told),
-        None => Cause::Memory,
-    };
-    Left { cause, store }
+    match told {
+        Some(told) => Left {
+            cause: tell(alloc, out, &told),
+            store,
+        },
+        None => Left {
+            cause: Cause::Memory,
+            store,
+        },
+    }
 }
 
 // Runs the script over a store, and tells how the run ends.
