@@ -184,19 +184,19 @@ module _ {S : Type 0} (view : S → View) (st0 st1 st2 st3 : Shown S) (rests : R
       base : Runs st1.contents.schema (HadBy view st1) (faults_beside view st1 m1) left jobs order outcomes
       base = done-runs view st1.contents.schema st1 st2 (faults_beside view st1 m1) (faults_beside view st2 m2) jobs order outcomes h rise left
           (count-left (view st3.store).faults st3.maker_faults (reader_faults st3.segments) (faults_beside view st2 m2) left.faults after counts)
-          (λ b had open. subst (λ t. EachImage left (Stands t (durable b))) kept (stands b (over_has b had) (over_rests.closed ∙ open)))
+          (λ b had unshut. subst (λ t. EachImage left (Stands t (durable b))) kept (stands b (over_has b had) (over_rests.closed ∙ unshut)))
           (λ p b seen shut. calm-shut (view st3.store) left calm st1.contents.schema b seen p (calm-shut (view st2.store) (view st3.store) over_rests.calm st1.contents.schema b seen p shut))
           reads
 
   -- the lane did none, and the tablet is as it was
   pub lane-kept : st2 ≡ st1 → st0.closed ≡ None → (b : Book) → Has view st0 b → EachImage left (Stands st0.contents.schema (durable b))
-  lane-kept same open b had =
+  lane-kept same unshut b had =
       subst (λ t. EachImage left (Stands t (durable b))) (ap (λ c. c.schema) over_rests.contents ∙ ap (λ (st : Shown S). st.contents.schema) same ∙ ap (λ c. c.schema) rests.contents)
-      (stands b (over_has b (subst (λ st. Has view st b) (sym same) (has b had))) (over_rests.closed ∙ ap (λ (st : Shown S). st.closed) same ∙ rests.closed ∙ open))
+      (stands b (over_has b (subst (λ st. Has view st b) (sym same) (has b had))) (over_rests.closed ∙ ap (λ (st : Shown S). st.closed) same ∙ rests.closed ∙ unshut))
 
 -- no lane was begun
 pub unbegun-kept : {S : Type 0} (view : S → View) (st0 st1 : Shown S) (left : View) → Rests view st0 st1 → ((b : Book) → Has view st0 b → Has view st1 b)
     → ((b : Book) → Has view st1 b → st1.closed ≡ None → EachImage left (Stands st1.contents.schema (durable b)))
     → st0.closed ≡ None → (b : Book) → Has view st0 b → EachImage left (Stands st0.contents.schema (durable b))
-unbegun-kept view st0 st1 left rests has stands open b had =
-    subst (λ t. EachImage left (Stands t (durable b))) (ap (λ c. c.schema) rests.contents) (stands b (has b had) (rests.closed ∙ open))
+unbegun-kept view st0 st1 left rests has stands unshut b had =
+    subst (λ t. EachImage left (Stands t (durable b))) (ap (λ c. c.schema) rests.contents) (stands b (has b had) (rests.closed ∙ unshut))

@@ -140,7 +140,7 @@ opened-kept view s store st left opened honest stands = record {
 
 -- two tables that were found to differ
 pub differs : (t u s : Layout) (same : Truth) → u ≡ t → (u ≡ s → IsTrue same) → same ≡ false → t ≡ s → ⊥
-differs t u s same is tells no e = absurd (other (sym (tells (is ∙ e)) ∙ no))
+differs t u s same is tells unlike e = absurd (other (sym (tells (is ∙ e)) ∙ unlike))
   where
     other : true ≡ false → ⊥
     other e = cc

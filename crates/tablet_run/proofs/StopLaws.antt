@@ -227,7 +227,10 @@ table-is fs words s jobs h =
     let texts = h.has.texts in
     ap (table_named fs) texts.names ∙ ap (λ bytes. Some (table_of bytes)) (held-bytes fs texts.named.table h.has.table texts.table_held.1) ∙ ap (λ r. Some r) h.has.table_is
 
-same-table : (s t : Layout) → Some (Ok s) ≡ Some (Ok t) → s ≡ t
+abbrev read_as : Layout → Option (Result Layout TableFault)
+read_as s = Some (Ok s)
+
+same-table : (s t : Layout) → read_as s ≡ read_as t → s ≡ t
 same-table s t e = cc e
 
 -- words name one table

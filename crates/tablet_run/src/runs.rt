@@ -121,7 +121,7 @@ fn serve<O: Sink, S: Store>(alloc: Global, asked: &Asked, out: &mut O, store: S)
         Ok(state) => state,
         Err((store, cause)) => return Left { cause, store },
     };
-    let Ran { store, told } = run_jobs(alloc, state, &asked.jobs);
+    let Ran { store, told } = run_jobs(alloc, state, asked.jobs.as_slice());
     match told {
         Some(told) => Left {
             cause: tell(alloc, out, &told),
