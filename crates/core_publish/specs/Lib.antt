@@ -1,2 +1,6 @@
+pub mod Lines
+pub mod Results
+pub mod Leaving
 pub mod Prepared
-pub mod Replies
+pub mod Publication
+pub mod Writing

@@ -1,8 +1,11 @@
-//! A STUB.
+//! Loads as a tablet takes them: prepared outside of any turn, published in one.
 #![tactic(auto)]
 
+mod files;
+mod laws;
+mod lines;
 mod prepared;
-mod publishing;
+mod results;
 
+pub use laws::prepared_loads;
 pub use prepared::{Prepared, prepare};
-pub use publishing::{open_version, publish, stat};

@@ -1,31 +1,89 @@
-ghost use Rattle.std.specs.Prelude.{◌≡◌, ◌+◌, IfOk, is_some, false, length};
-ghost use Rattle.core_publish.specs.Prepared.{EachTells};
+ghost use Rattle.std.specs.Prelude.{◌≡◌, ◌≤◌, All, IfOk, IsTrue, is_some, false, length};
 ghost use Rattle.dev_traits.specs.Causes.{HasMakeCause};
+ghost use Rattle.pk_values.specs.Schemas.{fits_row};
+ghost use Rattle.segment_form.specs.Segments.{KeysRise};
 ghost use Rattle.pk_model.specs.Lawful.{IsLawful};
+ghost use Rattle.rowsets.specs.Loads.{IsWhole};
+ghost use Rattle.std.specs.FinMap.{empty, values};
+ghost use Rattle.pk_model.specs.Tables.{after};
+ghost use Rattle.core_publish.specs.Prepared.{AreMovesOf, EachTells, IsPrepared};
 
+use crate::files::write_files;
+use crate::lines::{coded, sorted};
+use crate::results::{Results, results_of};
 use dev_traits::{FileMaker, MakeFault};
+use index_level0::{KeyBytes, Place};
 use pk_model::Load;
 use pk_values::Schema;
-use std::alloc::Global;
+use segment_write::Made;
+use std::alloc::{AllocError, Global};
 use std::marker::Model;
+use std::snapshot::Snapshot;
 
+/// A load of all columns that is ready to be published: its rows stand in sealed files, and of each key that it
+/// touches the code is at hand, and where its new row stands. Contracts also see the load itself, which takes no
+/// memory here.
 #[derive(Drop)]
 pub struct Prepared<M: FileMaker> {
-    schema: Schema,
-    load: Load,
+    schema: Snapshot<Schema>,
+    load: Snapshot<Load>,
+    files: Vec<Made<M>>,
+    entries: Vec<(KeyBytes, Option<Place>)>,
     spent: bool,
-    files: Vec<M::Sealed>,
 }
 
 impl<M: FileMaker> Model for Prepared<M> {
-    ghost use Rattle.std.specs.Prelude.{map};
-    ghost use Rattle.core_publish.specs.Prepared.{PreparedView};
+    ghost use Rattle.std.specs.Prelude.{◌≡◌, map, false};
+    ghost use Rattle.core_publish.specs.Prepared.{IsPrepared, PreparedView};
 
     ghost Value = { PreparedView };
 
-    ghost view = { λ p. record { schema = p.schema; load = p.load; files = map (λ f. M.sealed_bytes f) p.files.items; spent = p.spent } };
+    ghost view = { λ p. record {
+      schema = p.schema.value;
+      load = p.load.value;
+      files = map (λ f. (M.sealed_bytes f.sealed, f.footer)) p.files.items;
+      entries = p.entries.items;
+      spent = p.spent;
+    } };
+
+    ghost invariant = { λ p. p.spent ≡ false → IsPrepared p.schema.value p.load.value
+        (map (λ f. (M.sealed_bytes f.sealed, f.footer)) p.files.items) p.entries.items };
 }
 
+impl<M: FileMaker> Prepared<M> {
+    /// Whether it was published, or its publishing met a fault that closed the tablet. It can't be published again.
+    pub fn is_spent(&self) -> bool
+        ensures { result ≡ self.now.spent }
+    {
+        self.spent
+    }
+}
+
+// What a load of all columns leaves.
+fn settled(alloc: Global, schema: &Schema, load: Load) -> Result<Results, AllocError>
+    requires lawful { IsLawful schema.now load }
+    requires whole { IsWhole schema.now load }
+    ensures rows { IfOk result (λ r. r.rows.items ≡ values (after schema.now load empty)) }
+    ensures entries { IfOk result (λ r. AreMovesOf schema.now load r.rows.items r.entries.items) }
+    ensures fit { IfOk result (λ r. All (λ row. IsTrue (fits_row schema.now row)) r.rows.items) }
+    ensures rise { IfOk result (λ r. KeysRise schema.now r.rows.items) }
+    ensures few { IfOk result (λ r. length r.rows.items ≤ 262144) }
+{
+    // No schema has a fault.
+    let _columns = schema.columns();
+    let Load { given: _, ops } = load;
+    let lines = coded(alloc, schema, ops.into_vec())?;
+    let results = results_of(alloc, sorted(lines)?)?;
+    Ok(results)
+}
+
+/// Prepares a load of all columns, for any table of this schema. It sorts the lines once by the codes of their keys,
+/// keeps one result a key, as its last line leaves it, and writes the rows into files of 65,536 rows. No cell is
+/// copied.
+///
+/// # Errors
+/// `StoreFault` exactly where the maker failed, which it counted once. `Memory` where this call or the maker wants
+/// memory; nothing is counted then.
 pub fn prepare<M: FileMaker>(
     alloc: Global,
     maker: &mut M,
@@ -33,14 +91,26 @@ pub fn prepare<M: FileMaker>(
     load: Load,
 ) -> Result<Prepared<M>, MakeFault>
     requires lawful { IsLawful schema.now load }
-    requires whole { schema.now.keys + length load.given ≡ length schema.now.columns }
+    requires whole { IsWhole schema.now load }
     ensures schema { IfOk result (λ p. p.schema ≡ schema.now) }
     ensures load { IfOk result (λ p. p.load ≡ load) }
     ensures unspent { IfOk result (λ p. p.spent ≡ false) }
+    ensures prepared { IfOk result (λ p. IsPrepared schema.now load p.files p.entries) }
+
+    // Where the maker tells its bytes, so does each file.
     ensures told { IfOk result (λ p. EachTells (is_some (M.view maker.old).made) p.files) }
+
     ensures tells { is_some (M.view maker.new).made ≡ is_some (M.view maker.old).made }
     ensures cause { HasMakeCause (M.view maker.old).faults (M.view maker.new).faults result }
 {
-    let _ = (alloc, schema, load, maker.faults());
-    Err(MakeFault::Memory)
+    let whole = Snapshot::of(&load);
+    let Results { rows, entries } = settled(alloc, schema, load)?;
+    let files = write_files(alloc, maker, schema, &rows)?;
+    Ok(Prepared {
+        schema: Snapshot::of(schema),
+        load: whole,
+        files,
+        entries,
+        spent: false,
+    })
 }

@@ -1,2 +1,3 @@
-pub mod Scans
+pub mod Parts
 pub mod Snapshots
+pub mod Scans

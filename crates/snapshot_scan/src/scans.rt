@@ -1,91 +1,171 @@
-ghost use Rattle.std.specs.Prelude.{◌≡◌, ◌≤◌, IsTrue, IfOk, IfErr, IfSome, List, None};
-ghost use Rattle.std.specs.FinMap.{len, values};
-ghost use Rattle.pk_values.specs.declared.cells.Value.{Value};
-ghost use Rattle.pk_values.specs.Schemas.{fits_row};
+ghost use Rattle.std.specs.Prelude.{◌≡◌, ◌+◌, ◌-◌, ◌^◌, ◌≤◌, ℕ, List, IfErr, IfOk, IfSome, IsOk, None, OnErr, OnOk};
+ghost use Rattle.std.specs.Prelude.{Err, min, slice_get};
+ghost use Rattle.std.specs.FinMap.{values};
 ghost use Rattle.pk_model.specs.Tables.{Rows};
-ghost use Rattle.dev_traits.specs.declared.faults.ReadFault.TheVariants as read;
-ghost use Rattle.snapshot_scan.specs.Snapshots.{SnapshotView, IsSnapshotOf, fault_count};
-ghost use Rattle.snapshot_scan.specs.Scans.{AreToCome, Gives, OnDamage};
+ghost use Rattle.pk_values.specs.declared.cells.Value.{Value};
+ghost use Rattle.segment_read.specs.Reads.{OnDamage};
+ghost use Rattle.snapshot_scan.specs.Scans.{AreToCome, Gives, HasLive, IsDue, IsKept, NoneDue, reads_in_all};
+ghost use Rattle.snapshot_scan.specs.Scans.{ReadsAllOnce, ReadsDue, ReadsOnce, ScanFailed, ScanView};
+ghost use Rattle.snapshot_scan.specs.Snapshots.{fault_count, IsSnapshotOf, read_count};
 
+use crate::feeds::{refill, start, take_first};
+use crate::snapshots::Snapshot;
 use dev_traits::{ReadFault, SealedReader};
-use pk_values::{Row, Schema};
+use pk_values::Row;
+use row_merge::{Bracket, Cursor};
 use std::alloc::Global;
 use std::marker::Model;
 
-#[derive(Drop)]
-pub struct Snapshot<R: SealedReader> {
-    version: u64,
-    schema: Schema,
-    parts: Vec<R>,
-}
-
-impl<R: SealedReader> Model for Snapshot<R> {
-    ghost use Rattle.std.specs.Prelude.{map};
-    ghost use Rattle.snapshot_scan.specs.Snapshots.{SnapshotView};
-
-    ghost Value = { SnapshotView };
-
-    ghost view = { λ s. record { version = s.version; schema = s.schema; parts = map R.view s.parts.items } };
-}
-
+/// A scan under way: it gives the live rows of a version in the order of their keys, and holds at
+/// most one block of each segment. Contracts see what it has still to give.
 #[derive(Drop)]
 pub struct Scan<R: SealedReader> {
     snapshot: Snapshot<R>,
+    cursors: Vec<Cursor>,
+    // None where there is no segment.
+    bracket: Option<Bracket>,
+    // The part that gave the last row, whose matches aren't played again yet.
+    last: usize,
     fault: Option<ReadFault>,
 }
 
 impl<R: SealedReader> Model for Scan<R> {
-    ghost use Rattle.snapshot_scan.specs.Scans.{ScanView};
+    ghost use Rattle.snapshot_scan.specs.Scans.{IsScanning, ScanView};
 
     ghost Value = { ScanView };
 
-    ghost view = { λ s. record { snapshot = s.snapshot; fault = s.fault } };
+    ghost view = { λ s. record { snapshot = s.snapshot; cursors = s.cursors.items; fault = s.fault } };
+
+    ghost invariant = { λ s. IsScanning s.snapshot s.cursors.items s.bracket s.last s.fault };
 }
 
 impl<R: SealedReader> Snapshot<R> {
-    pub fn version(&self) -> u64
-        ensures { result ≡ self.now.version }
-    {
-        self.version
-    }
-
-    pub fn count(&self) -> u64
-        ensures size { (m : Rows) → IsSnapshotOf self.now m → result ≡ len m }
-    {
-        self.parts.len() as u64
-    }
-
-    pub fn scan(self, alloc: Global) -> Result<Scan<R>, (Snapshot<R>, ReadFault)>
+    /// Begins a scan, by at most one read of each segment: of its first block with a live row.
+    ///
+    /// # Errors
+    /// The snapshot, and the fault of the block that wasn't read; `Memory`.
+    pub fn scan(mut self, alloc: Global) -> Result<Scan<R>, (Snapshot<R>, ReadFault)>
+        // What comes are the rows of the map for which the snapshot stands, in the order of their keys.
         ensures rows { IfOk result (λ scan. (m : Rows) → IsSnapshotOf self m → AreToCome scan (values m)) }
         ensures unfailed { IfOk result (λ scan. scan.fault ≡ None) }
-        ensures schema { IfOk result (λ scan. scan.snapshot.schema ≡ self.schema) }
+        ensures reads { IfOk result (λ scan. ReadsOnce self.parts scan.snapshot.parts) }
+
+        // The whole scan takes at most one read for each block.
+        ensures once { IfOk result (λ scan. ReadsAllOnce self.parts scan.snapshot.parts scan.cursors) }
+        ensures stands { IfOk result (λ scan. (m : Rows) → IsSnapshotOf self m → IsSnapshotOf scan.snapshot m) }
         ensures version { IfOk result (λ scan. scan.snapshot.version ≡ self.version) }
-        ensures counted { IfErr result (λ e. e.1 ≡ read.StoreFault → 1 ≤ fault_count e.0.parts) }
+        ensures schema { IfOk result (λ scan. scan.snapshot.schema ≡ self.schema) }
+        ensures failed { IfErr result (λ e. ScanFailed self.schema e.1 self.parts e.0.parts) }
+
+        // No damage is told where all files are those of segments.
         ensures intact { IfErr result (λ e. OnDamage e.1 (λ damaged. (m : Rows) → IsSnapshotOf self m → ⊥)) }
+        ensures kept_version { IfErr result (λ e. e.0.version ≡ self.version) }
+        ensures kept_schema { IfErr result (λ e. e.0.schema ≡ self.schema) }
     {
-        let _alloc = alloc;
-        Err((self, ReadFault::Memory))
+        match start(alloc, &mut self) {
+            Ok((cursors, bracket)) => Ok(Scan {
+                snapshot: self,
+                cursors,
+                bracket,
+                last: 0,
+                fault: None,
+            }),
+            Err(fault) => Err((self, fault)),
+        }
+    }
+}
+
+// The fault that each later call answers again.
+fn lasting(fault: ReadFault) -> Option<ReadFault>
+    ensures { IsKept fault result }
+{
+    match fault {
+        ReadFault::Memory => None,
+        ReadFault::StoreFault => Some(ReadFault::StoreFault),
+        ReadFault::Damaged(damaged) => Some(ReadFault::Damaged(damaged)),
     }
 }
 
 impl<R: SealedReader> Scan<R> {
+    /// The next row, or None exactly after the last. Where the segment that gave the last row has no
+    /// row at hand, its next block with a live row is read, by one read; otherwise nothing is read.
+    ///
+    /// # Errors
+    /// Those of reading that block. After any of them the same row is still to come. A fault other
+    /// than `Memory` is answered again by each later call, which reads nothing.
     pub fn next_row(&mut self, alloc: Global) -> Result<Option<Row>, ReadFault>
-        ensures gives { IfOk result (λ row. (rows : List (List Value)) → AreToCome self.old rows → Gives row rows (AreToCome self.new)) }
-        ensures fits { IfOk result (λ row. IfSome row (λ r. IsTrue (fits_row self.old.snapshot.schema r))) }
-        ensures schema { self.new.snapshot.schema ≡ self.old.snapshot.schema }
-        ensures counted { IfErr result (λ e. e ≡ read.StoreFault → 1 ≤ fault_count self.new.snapshot.parts) }
+        // It gives the first of the rows to come, and the others are to come then; None where no row is left.
+        ensures gives { IfOk result (λ row. (rows : List (List Value)) → AreToCome self.old rows
+            → Gives row rows (AreToCome self.new)) }
+        ensures stays { OnErr result ((rows : List (List Value)) → AreToCome self.old rows
+            → AreToCome self.new rows) }
+
+        // The same block is due after an error.
+        ensures refused { OnErr result (self.new.cursors ≡ self.old.cursors) }
+
+        // A fault is answered again, and nothing is read.
+        ensures again { IfSome self.old.fault (λ fault. (result ≡ Err fault) × (self.new ≡ self.old)) }
+        ensures kept { IfErr result (λ fault. IsKept fault self.new.fault) }
+        ensures unfailed { IfOk result (λ row. self.new.fault ≡ None) }
+
+        // Where no block is due nothing is read, and nothing fails.
+        ensures at_hand { self.old.fault ≡ None → NoneDue self.old.cursors
+            → IsOk result × (self.new.snapshot ≡ self.old.snapshot) }
+
+        // The block that is due has a live row.
+        ensures live { (i b : ℕ) → IsDue self.old.cursors i b
+            → IfSome (slice_get self.old.snapshot.parts i) (λ part. HasLive part.footer.rows part.dead b) }
+
+        // At most one block is read in all; and where that goes well, it isn't read again.
+        ensures most { read_count self.new.snapshot.parts ≤ read_count self.old.snapshot.parts + 1 }
+        ensures once { OnOk result (reads_in_all self.new.snapshot.parts self.new.cursors
+            ≤ reads_in_all self.old.snapshot.parts self.old.cursors) }
+
+        // The block that is due is read, by one read, and no other.
+        ensures due { self.old.fault ≡ None → (i b : ℕ) → IsDue self.old.cursors i b
+            → ReadsDue self.old.snapshot.schema i b self.old.snapshot.parts self.new.snapshot.parts result }
+
+        // No damage is told where all files are those of segments.
         ensures intact { self.old.fault ≡ None → IfErr result (λ e. OnDamage e (λ damaged.
             (rows : List (List Value)) → AreToCome self.old rows → ⊥)) }
-        ensures unfailed { IfOk result (λ row. self.new.fault ≡ None) }
+
+        // The snapshot goes on to stand for what it stood for.
+        ensures stands { (m : Rows) → IsSnapshotOf self.old.snapshot m → IsSnapshotOf self.new.snapshot m }
+        ensures version { self.new.snapshot.version ≡ self.old.snapshot.version }
+        ensures schema { self.new.snapshot.schema ≡ self.old.snapshot.schema }
     {
-        let _alloc = alloc;
-        self.fault = None;
-        Err(ReadFault::Memory)
+        if let Some(fault) = self.fault {
+            return Err(fault);
+        }
+        let Some(bracket) = &mut self.bracket else {
+            return Ok(None);
+        };
+        match refill(alloc, &mut self.snapshot, &mut self.cursors, self.last) {
+            Ok(()) => {
+                let schema = self.snapshot.schema();
+                let (row, last) = take_first(schema, &mut self.cursors, bracket, self.last);
+                self.last = last;
+                Ok(row)
+            }
+            Err(fault) => {
+                self.fault = lasting(fault);
+                Err(fault)
+            }
+        }
     }
 
+    /// How often the readers have failed, at most the last u64.
+    pub fn faults(&self) -> u64
+        ensures { result ≡ min (fault_count self.now.snapshot.parts) (2 ^ 64 - 1) }
+    {
+        self.snapshot.faults()
+    }
+
+    /// Ends the scan and gives back its snapshot.
     pub fn into_snapshot(self) -> Snapshot<R>
         ensures { result ≡ self.snapshot }
     {
-        self.snapshot
+        let Scan { snapshot, .. } = self;
+        snapshot
     }
 }

@@ -1,5 +1,10 @@
-pub mod Codes
-pub mod Contents
 pub mod Stands
-pub mod State
+pub mod Holding
 pub mod Turns
+pub mod Contents
+pub mod State
+pub mod Readies
+pub mod Opening
+pub mod Adopting
+pub mod Seen
+pub mod Codes

@@ -1,7 +1,18 @@
-//! A STUB.
+//! What a tablet keeps over a store, and what each call makes of it.
 #![tactic(auto)]
 
+mod adopting;
+mod changes;
 mod hands;
+mod laws;
+mod making;
+mod parts;
+mod ready;
 mod state;
+mod turns;
 
+pub use changes::{Change, Ready};
+pub use laws::{holding, replying, standing};
+pub use parts::StateParts;
+pub use ready::ReadyFault;
 pub use state::State;

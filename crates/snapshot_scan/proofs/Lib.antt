@@ -1,0 +1,13 @@
+pub mod ListFacts
+pub mod StreamFacts
+pub mod PartFacts
+pub mod CountFacts
+pub mod SnapFacts
+pub mod CursorFacts
+pub mod LeftFacts
+pub mod StepFacts
+pub mod TakeFacts
+pub mod FillFacts
+pub mod BeginFacts
+pub mod NextFacts
+pub mod CountingFacts
