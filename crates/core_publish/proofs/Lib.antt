@@ -6,3 +6,4 @@ pub mod PlaceFacts
 pub mod PublicationFacts
 pub mod SettleFacts
 pub mod EntryFacts
+pub mod OpeningFacts

@@ -4,3 +4,5 @@ pub mod Leaving
 pub mod Prepared
 pub mod Publication
 pub mod Writing
+pub mod Replies
+pub mod Opening

@@ -4,8 +4,10 @@
 mod files;
 mod laws;
 mod lines;
+mod opening;
 mod prepared;
 mod results;
 
 pub use laws::prepared_loads;
+pub use opening::{open_version, stat};
 pub use prepared::{Prepared, prepare};

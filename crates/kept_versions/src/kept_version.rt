@@ -1,11 +1,11 @@
-ghost use Rattle.std.specs.Prelude.{◌≡◌, ◌-◌, ◌^◌, IfOk, [], length, min, true};
+ghost use Rattle.std.specs.Prelude.{◌≡◌, ◌-◌, ◌^◌, ◌≤◌, IfOk, [], length, min, true};
 ghost use Rattle.std.specs.Option.{option_copied};
-ghost use Rattle.journal_form.specs.Versions.{changes_fit, file_numbered, files_of, marked, published_rowsets};
+ghost use Rattle.journal_form.specs.Versions.{changes_fit, compacted_rowsets, file_numbered, files_of, marked, published_rowsets};
 ghost use Rattle.kept_versions.specs.Files.{alive, is_live};
 
 use crate::kept_file::KeptFile;
 use crate::lookups::find_file;
-use crate::marking::{mark_files, mark_rowsets, whole_files};
+use crate::marking::{mark_behind, mark_files, mark_rowsets, whole_files};
 use dev_traits::Memory;
 use index_level0::Place;
 use journal_form::{DeadRows, NewFile};
@@ -112,6 +112,30 @@ impl KeptVersion {
         }
         let new = whole_files(alloc, files)?;
         rowsets.push(mark_files(alloc, new.as_slice(), changed)?)?;
+        Ok(KeptVersion { rowsets })
+    }
+
+    /// The version after a compaction, where the record that tells it fits: the new files are its first
+    /// rowset in place of so many, and the changed rows are dead.
+    pub fn after_compact(
+        &self,
+        alloc: Global,
+        replaced: usize,
+        files: &[NewFile],
+        changed: &[DeadRows],
+    ) -> Result<KeptVersion, Memory>
+        requires few { replaced ≤ length self.now }
+        requires fit { changes_fit 0 (files_of (compacted_rowsets replaced files.now self.now)) changed.now ≡ true }
+        ensures { IfOk result (λ next. next ≡ marked changed.now (compacted_rowsets replaced files.now self.now)) }
+    {
+        let left = &self.rowsets.as_slice()[replaced..];
+        if files.is_empty() {
+            let rowsets = mark_rowsets(alloc, left, changed)?;
+            return Ok(KeptVersion { rowsets });
+        }
+        let new = whole_files(alloc, files)?;
+        let first = mark_files(alloc, new.as_slice(), changed)?;
+        let rowsets = mark_behind(alloc, first, left, changed)?;
         Ok(KeptVersion { rowsets })
     }
 }

@@ -1,4 +1,4 @@
-ghost use Rattle.std.specs.Prelude.{◌≡◌, IfOk, length, map};
+ghost use Rattle.std.specs.Prelude.{◌≡◌, ◌∷◌, IfOk, length, map};
 ghost use Rattle.std.specs.List.{list_all};
 ghost use Rattle.rowsets.specs.Marks.{Rises};
 ghost use Rattle.journal_form.specs.Versions.{files_of, marked, marked_file, whole_file};
@@ -62,6 +62,25 @@ pub fn mark_rowsets(
     ensures { IfOk result (λ all. all ≡ marked changed.now rowsets.now) }
 {
     let mut marked = Items::with_capacity(alloc, rowsets.len().saturating_add(1))?;
+    for files in rowsets {
+        marked.push(mark_files(alloc, files.as_slice(), changed)?)?;
+    }
+    Ok(marked)
+}
+
+/// A rowset, and behind it rowsets with their changed rows dead.
+pub fn mark_behind(
+    alloc: Global,
+    first: Items<KeptFile>,
+    rowsets: &[Items<KeptFile>],
+    changed: &[DeadRows],
+) -> Result<Items<Items<KeptFile>>, Memory>
+    requires files { Rises (changed_numbers changed.now) }
+    requires rows { RowsRise changed.now }
+    ensures { IfOk result (λ all. all ≡ first ∷ marked changed.now rowsets.now) }
+{
+    let mut marked = Items::with_capacity(alloc, rowsets.len().saturating_add(1))?;
+    marked.push(first)?;
     for files in rowsets {
         marked.push(mark_files(alloc, files.as_slice(), changed)?)?;
     }

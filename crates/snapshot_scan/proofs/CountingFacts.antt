@@ -6,8 +6,9 @@ use Rattle.pk_values.specs.Schemas.{Layout}
 use Rattle.segment_read.specs.Reads.{Reading}
 use Rattle.row_merge.specs.Cursors.{CursorView}
 use Rattle.snapshot_scan.specs.Parts.{PartView, read_by}
-use Rattle.snapshot_scan.specs.Scans.{block_count, blocks_ahead, blocks_left, IsDue, ReadOn, reads_in_all, Taken}
-use Rattle.snapshot_scan.specs.Snapshots.{read_count, ReadsPart}
+use Rattle.dev_traits.specs.declared.faults.ReadFault.TheVariants as read
+use Rattle.snapshot_scan.specs.Scans.{block_count, blocks_ahead, blocks_left, IsCounted, IsDue, ReadOn, reads_in_all, Taken}
+use Rattle.snapshot_scan.specs.Snapshots.{fault_count, read_count, ReadsPart}
 use Rattle.snapshot_scan.proofs.ListFacts.{none_some, some_one}
 use Rattle.snapshot_scan.proofs.LeftFacts.{got_within, get_there, one_less}
 
@@ -79,3 +80,22 @@ left_few (p ∷ ps) (c ∷ cs) = let more = left_few ps cs in let few = ahead_fe
     ahead_few : (o : Option ℕ) (n : ℕ) → blocks_ahead o n ≤ n
     ahead_few None n = omega arith
     ahead_few (Some b) n = omega arith
+
+-- ---- a failure is counted
+
+faults_set : (ps : List PartView) (i : ℕ) (p : PartView) (reader : ReaderView) → slice_get ps i ≡ Some p → reader.faults ≤ fault_count (slice_set ps i (read_by reader p))
+faults_set [] i p reader e = absurd (none_some p e)
+faults_set (x ∷ ps) zero p reader e = omega arith
+faults_set (x ∷ ps) (suc i) p reader e = let more = faults_set ps i p reader e in omega arith
+
+pub part_counted : (s : Layout) (old new : List PartView) (i b : ℕ) (fault : ReadFault) → ReadsPart i old new (λ part reader. ReadOn s part b reader (Err fault)) → IsCounted new fault
+part_counted s old new i b fault reads e =
+    let one = reads.how.reading.failed e in
+    let most = faults_set old i reads.part reads.reader reads.there in
+    let now = ap fault_count reads.now in
+    omega arith
+
+-- where no fault lasts there is none to be counted
+pub none_counted : (o : Option ReadFault) (parts : List PartView) → ((e : ReadFault) → o ≡ Some e → ⊥) → IfSome o (IsCounted parts)
+none_counted None parts h = tt
+none_counted (Some e) parts h = absurd (h e refl)

@@ -179,5 +179,5 @@ due_err T s i b d old new fault same reads = subst (λ k. ReadsDue {T = T} s i k
   there = reads.there;
   reader = reads.reader;
   now = reads.now;
-  how = (reads.how.reading, reads.how.damaged);
+  how = (reads.how.reading, reads.how.damaged, tt);
 })

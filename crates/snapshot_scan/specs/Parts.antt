@@ -7,7 +7,8 @@ use Rattle.column_page.specs.Footers.{is_footer}
 use Rattle.column_page.specs.declared.footers.Footer.{Footer}
 use Rattle.dev_traits.specs.Reader.{ReaderView}
 use Rattle.dev_traits.specs.declared.faults.ReadFault.{ReadFault}
-use Rattle.segment_read.specs.Reads.{KnowsFooter, OnDamage}
+use Rattle.segment_read.specs.Blocks.{AreTheRows}
+use Rattle.segment_read.specs.Reads.{KnowsFooter, OfBlock, OfFile, OnDamage, block_in}
 use Rattle.segment_read.specs.Rows.{IsSegmentOf}
 use Rattle.segment_read.specs.declared.segments.Segment.{Segment}
 use Rattle.rowsets.specs.Scans.{Piece, alive, live_rows}
@@ -55,6 +56,14 @@ AreLive s part rows = (piece : Piece) → IsPieceOf s part piece → rows ≡ li
 
 abbrev pub AreLiveIn : Layout → PartView → ℕ → List (List Value) → Type 0
 AreLiveIn s part b rows = (piece : Piece) → IsPieceOf s part piece → rows ≡ live_in b piece
+
+-- where the reader tells, the bytes of block b are those of rows
+abbrev pub IsWhole : Layout → PartView → ℕ → Type 0
+IsWhole s part b = OfFile part.reader (λ file. OfBlock part.footer b (λ mark. (rows : List (List Value)) × AreTheRows s mark (block_in file mark) rows))
+
+-- so it is of all blocks
+abbrev pub IsAllWhole : Layout → PartView → Type 0
+IsAllWhole s part = OfFile part.reader (λ file. (rows : List (List Value)) × IsSegmentOf s part.footer file rows)
 
 -- damage isn't told where the file holds a piece
 abbrev pub ToldOfNoPiece : Layout → PartView → ReadFault → Type 0

@@ -15,8 +15,8 @@ use Rattle.row_merge.specs.Brackets.{end, IsStale, start}
 use Rattle.row_merge.specs.declared.brackets.Bracket.{Bracket}
 use Rattle.row_merge.specs.Cursors.{CursorView, Fit, front_at}
 use Rattle.row_merge.specs.Merge.{merge_all}
-use Rattle.snapshot_scan.specs.Parts.{PartView, IsPieceOf, live_from, read_by, ToldOfNoPiece}
-use Rattle.snapshot_scan.specs.Snapshots.{ArePieces, read_count, ReadsPart, SnapshotView}
+use Rattle.snapshot_scan.specs.Parts.{IsWhole, PartView, IsPieceOf, live_from, read_by, ToldOfNoPiece}
+use Rattle.snapshot_scan.specs.Snapshots.{ArePieces, fault_count, read_count, ReadsPart, SnapshotView}
 
 -- the snapshot, where the scan stands in each of its parts, and the fault that ended it
 pub record ScanView : Type 0 where
@@ -60,6 +60,10 @@ IsKept read.StoreFault kept = kept ≡ Some read.StoreFault
 IsKept (read.Damaged damaged) kept = kept ≡ Some (read.Damaged damaged)
 IsKept read.Memory kept = kept ≡ None
 
+-- where a reader's failure is told, it was counted
+abbrev pub IsCounted : List PartView → ReadFault → Type 0
+IsCounted parts fault = fault ≡ read.StoreFault → 1 ≤ fault_count parts
+
 -- a row of block b is live, in a file with so many rows
 pub record HasLive (rows : ℕ) (dead : List ℕ) (b : ℕ) : Type 0 where
   pub row : ℕ
@@ -95,10 +99,12 @@ pub record ReadOn (s : Layout) (part : PartView) (b : ℕ) (reader : ReaderView)
   pub rows : IfOk result (λ c. (piece : Piece) → IsPieceOf s part piece → c.rows ++ rows_ahead c.ahead piece ≡ live_from b piece)
   pub damaged : IfErr result (λ e. OnDamage e (IsBlockDamage s part b))
   pub intact : IfErr result (ToldOfNoPiece s part)
+  pub whole : IfOk result (λ _. IsWhole s part b)
 
--- the block of part i that is due was read, by one read, and nothing else; why not, if it wasn't
+-- the block of part i that is due was read, by one read, as the rows that its bytes stand for, and nothing else; why not, if it wasn't
 abbrev pub ReadsDue : {T : Type 0} → Layout → ℕ → ℕ → List PartView → List PartView → Result T ReadFault → Type 0
-ReadsDue s i b old new result = ReadsPart i old new (λ part reader. Reading 1 part.reader reader result × IfErr result (λ e. OnDamage e (IsBlockDamage s part b)))
+ReadsDue s i b old new result = ReadsPart i old new (λ part reader.
+    Reading 1 part.reader reader result × IfErr result (λ e. OnDamage e (IsBlockDamage s part b)) × IfOk result (λ _. IsWhole s part b))
 
 -- a bracket of all cursors, but for the matches of one part
 pub record IsPlayed (s : Layout) (cursors : List CursorView) (last : ℕ) (bracket : Bracket) : Type 0 where
@@ -121,6 +127,7 @@ pub record IsScanning (v : SnapshotView) (cursors : List CursorView) (bracket : 
   pub played : IfSome bracket (IsPlayed v.schema cursors last)
   pub empty : IfNone bracket (cursors ≡ [])
   pub lasts : IfSome fault (λ e. IsKept e fault)
+  pub counted : IfSome fault (IsCounted v.parts)
 
 -- each part with its reader as it is after calls that did so much
 pub record ReadsEach (old new : List PartView) (Did : ReaderView → ReaderView → Type 0) : Type 0 where

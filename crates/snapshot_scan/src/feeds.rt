@@ -1,9 +1,11 @@
-ghost use Rattle.std.specs.Prelude.{◌≡◌, ◌+◌, ◌<◌, ◌≤◌, ℕ, List, IfErr, IfOk, IsOk, OnErr, OnOk, None};
+ghost use Rattle.std.specs.Prelude.{◌≡◌, ◌+◌, ◌<◌, ◌≤◌, ℕ, List, IfErr, IfOk, IfSome, IsOk, IsTrue, OnErr, OnOk, None};
 ghost use Rattle.std.specs.Prelude.{length, map, slice_get};
 ghost use Rattle.rowsets.specs.Scans.{Piece};
 ghost use Rattle.rowsets.specs.Scans as scans;
 ghost use Rattle.row_merge.specs.Cursors.{AllFit};
-ghost use Rattle.snapshot_scan.specs.Scans.{AreCursors, GivesLeft, IsDue, IsPlayed, IsScanning, IsSettled, KeepsLeft};
+ghost use Rattle.pk_values.specs.Schemas.{fits_row};
+ghost use Rattle.snapshot_scan.specs.Scans.{AreCursors, GivesLeft, IsCounted, IsDue, IsPlayed, IsScanning, IsSettled};
+ghost use Rattle.snapshot_scan.specs.Scans.{KeepsLeft};
 ghost use Rattle.snapshot_scan.specs.Scans.{LeavesAll, NoneDue, reads_in_all, ReadsAllOnce, ReadsDue, ReadsOnce};
 ghost use Rattle.snapshot_scan.specs.Scans.{rows_left, ScanFailed, Taken, ToldOfNoPieces};
 ghost use Rattle.snapshot_scan.specs.Snapshots.{ArePieces, read_count};
@@ -38,6 +40,7 @@ pub fn refill<R: SealedReader>(
     ensures most { read_count snapshot.new.parts ≤ read_count snapshot.old.parts + 1 }
     ensures once { OnOk result (reads_in_all snapshot.new.parts cursors.new.items
         ≤ reads_in_all snapshot.old.parts cursors.old.items) }
+    ensures counted { IfErr result (IsCounted snapshot.new.parts) }
     ensures intact { IfErr result (ToldOfNoPieces snapshot.old) }
     ensures version { snapshot.new.version ≡ snapshot.old.version }
     ensures schema { snapshot.new.schema ≡ snapshot.old.schema }
@@ -65,6 +68,7 @@ pub fn take_first(
     requires none_due { NoneDue cursors.old.items }
     requires played { IsPlayed schema.now cursors.old.items last bracket.old }
     ensures gives { GivesLeft schema.now cursors.old.items result.0 cursors.new.items }
+    ensures fits { IfSome result.0 (λ row. IsTrue (fits_row schema.now row)) }
     ensures taken { Taken cursors.old.items result.1 cursors.new.items }
     ensures played { IsPlayed schema.now cursors.new.items result.1 bracket.new }
 {
@@ -107,6 +111,7 @@ fn fill<R: SealedReader>(
         ≤ reads_in_all snapshot.old.parts cursors.old.items) }
     ensures failed { IfErr result (λ e.
         ScanFailed snapshot.old.schema e snapshot.old.parts snapshot.new.parts) }
+    ensures counted { IfErr result (IsCounted snapshot.new.parts) }
     ensures intact { IfErr result (ToldOfNoPieces snapshot.old) }
     ensures version { snapshot.new.version ≡ snapshot.old.version }
     ensures schema { snapshot.new.schema ≡ snapshot.old.schema }
@@ -128,6 +133,7 @@ pub fn start<R: SealedReader>(
     ensures once { IfOk result (λ begun. ReadsAllOnce snapshot.old.parts snapshot.new.parts begun.0.items) }
     ensures failed { IfErr result (λ e.
         ScanFailed snapshot.old.schema e snapshot.old.parts snapshot.new.parts) }
+    ensures counted { IfErr result (IsCounted snapshot.new.parts) }
     ensures intact { IfErr result (ToldOfNoPieces snapshot.old) }
     ensures version { snapshot.new.version ≡ snapshot.old.version }
     ensures schema { snapshot.new.schema ≡ snapshot.old.schema }

@@ -5,7 +5,7 @@ ghost use Rattle.segment_read.specs.Rows.{IsRowsDamage};
 ghost use Rattle.rowsets.specs.Scans.{alive};
 ghost use Rattle.rowsets.specs.Scans as scans;
 ghost use Rattle.pk_values.specs.Schemas.{fits_row, Layout};
-ghost use Rattle.snapshot_scan.specs.Parts.{AreLive, AreLiveIn, IsPart, read_by, seen, ToldOfNoPiece};
+ghost use Rattle.snapshot_scan.specs.Parts.{AreLive, AreLiveIn, IsAllWhole, IsPart, IsWhole, read_by, seen, ToldOfNoPiece};
 ghost use Rattle.snapshot_scan.specs.Scans.{HasLeft, HasLive, IsBlockDamage, IsCursor, ReadOn};
 
 use crate::live::{live_rows, next_live};
@@ -43,6 +43,9 @@ pub fn live_block<R: SealedReader>(
     requires part { IsPart schema.now (seen R.view part.old) }
     requires there { b < length part.old.0.footer.blocks }
     ensures live { IfOk result (λ live. AreLiveIn schema.now (seen R.view part.old) b live.items) }
+
+    // Rows are given of a block alone whose bytes are those of rows.
+    ensures whole { IfOk result (λ _. IsWhole schema.now (seen R.view part.old) b) }
     ensures damaged { IfErr result (λ e. OnDamage e (IsBlockDamage schema.now (seen R.view part.old) b)) }
     ensures intact { IfErr result (ToldOfNoPiece schema.now (seen R.view part.old)) }
     ensures fit { IfOk result (λ live. All (λ row. IsTrue (fits_row schema.now row)) live.items) }
@@ -67,6 +70,9 @@ pub fn live_part<R: SealedReader>(
 ) -> Result<Vec<Row>, ReadFault>
     requires part { IsPart schema.now (seen R.view part.old) }
     ensures live { IfOk result (λ live. AreLive schema.now (seen R.view part.old) live.items) }
+
+    // Rows are given of a file alone whose bytes are those of a segment.
+    ensures whole { IfOk result (λ _. IsAllWhole schema.now (seen R.view part.old)) }
     ensures damaged { IfErr result (λ e.
         OnDamage e (IsRowsDamage schema.now part.old.0.footer part.old.0.number (R.view part.old.0.reader))) }
     ensures intact { IfErr result (ToldOfNoPiece schema.now (seen R.view part.old)) }

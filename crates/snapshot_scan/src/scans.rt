@@ -1,11 +1,12 @@
-ghost use Rattle.std.specs.Prelude.{◌≡◌, ◌+◌, ◌-◌, ◌^◌, ◌≤◌, ℕ, List, IfErr, IfOk, IfSome, IsOk, None, OnErr, OnOk};
-ghost use Rattle.std.specs.Prelude.{Err, min, slice_get};
+ghost use Rattle.std.specs.Prelude.{◌≡◌, ◌+◌, ◌-◌, ◌^◌, ◌≤◌, ℕ, List, IfErr, IfOk, IfSome, IsOk, IsTrue, None, OnErr};
+ghost use Rattle.std.specs.Prelude.{Err, min, OnOk, slice_get};
 ghost use Rattle.std.specs.FinMap.{values};
 ghost use Rattle.pk_model.specs.Tables.{Rows};
+ghost use Rattle.pk_values.specs.Schemas.{fits_row};
 ghost use Rattle.pk_values.specs.declared.cells.Value.{Value};
 ghost use Rattle.segment_read.specs.Reads.{OnDamage};
-ghost use Rattle.snapshot_scan.specs.Scans.{AreToCome, Gives, HasLive, IsDue, IsKept, NoneDue, reads_in_all};
-ghost use Rattle.snapshot_scan.specs.Scans.{ReadsAllOnce, ReadsDue, ReadsOnce, ScanFailed, ScanView};
+ghost use Rattle.snapshot_scan.specs.Scans.{AreToCome, Gives, HasLive, IsCounted, IsDue, IsKept, NoneDue};
+ghost use Rattle.snapshot_scan.specs.Scans.{reads_in_all, ReadsAllOnce, ReadsDue, ReadsOnce, ScanFailed, ScanView};
 ghost use Rattle.snapshot_scan.specs.Snapshots.{fault_count, IsSnapshotOf, read_count};
 
 use crate::feeds::{refill, start, take_first};
@@ -57,6 +58,9 @@ impl<R: SealedReader> Snapshot<R> {
         ensures schema { IfOk result (λ scan. scan.snapshot.schema ≡ self.schema) }
         ensures failed { IfErr result (λ e. ScanFailed self.schema e.1 self.parts e.0.parts) }
 
+        // Where a reader's failure is told, it was counted.
+        ensures counted { IfErr result (λ e. IsCounted e.0.parts e.1) }
+
         // No damage is told where all files are those of segments.
         ensures intact { IfErr result (λ e. OnDamage e.1 (λ damaged. (m : Rows) → IsSnapshotOf self m → ⊥)) }
         ensures kept_version { IfErr result (λ e. e.0.version ≡ self.version) }
@@ -97,6 +101,7 @@ impl<R: SealedReader> Scan<R> {
         // It gives the first of the rows to come, and the others are to come then; None where no row is left.
         ensures gives { IfOk result (λ row. (rows : List (List Value)) → AreToCome self.old rows
             → Gives row rows (AreToCome self.new)) }
+        ensures fits { IfOk result (λ row. IfSome row (λ cells. IsTrue (fits_row self.old.snapshot.schema cells))) }
         ensures stays { OnErr result ((rows : List (List Value)) → AreToCome self.old rows
             → AreToCome self.new rows) }
 
@@ -107,6 +112,9 @@ impl<R: SealedReader> Scan<R> {
         ensures again { IfSome self.old.fault (λ fault. (result ≡ Err fault) × (self.new ≡ self.old)) }
         ensures kept { IfErr result (λ fault. IsKept fault self.new.fault) }
         ensures unfailed { IfOk result (λ row. self.new.fault ≡ None) }
+
+        // Where a reader's failure is told, it was counted.
+        ensures counted { IfErr result (IsCounted self.new.snapshot.parts) }
 
         // Where no block is due nothing is read, and nothing fails.
         ensures at_hand { self.old.fault ≡ None → NoneDue self.old.cursors

@@ -6,7 +6,7 @@ ghost use Rattle.dev_traits.specs.View.{Calm};
 ghost use Rattle.segment_read.specs.Reads.{OnDamage, Reading};
 ghost use Rattle.segment_read.specs.Rows.{IsRowsDamage};
 ghost use Rattle.rowsets.specs.Scans as scans;
-ghost use Rattle.snapshot_scan.specs.Parts.{AreLive, AreLiveIn, seen, ToldOfNoPiece};
+ghost use Rattle.snapshot_scan.specs.Parts.{AreLive, AreLiveIn, IsAllWhole, IsWhole, seen, ToldOfNoPiece};
 ghost use Rattle.snapshot_scan.specs.Scans.{HasLeft, HasLive, IsBlockDamage, IsCursor, ReadOn};
 ghost use Rattle.snapshot_scan.specs.Snapshots.{AreParts, fault_count, IsSnapshotOf, live_count, ReadsPart};
 
@@ -127,6 +127,10 @@ impl<R: SealedReader> Snapshot<R> {
         requires { i < length self.old.parts }
         ensures live { IfOk result (λ live. IfSome (slice_get self.old.parts i) (λ part.
             AreLive self.old.schema part live.items)) }
+
+        // Rows are given of a file alone whose bytes are those of a segment.
+        ensures whole { IfOk result (λ _. IfSome (slice_get self.old.parts i) (λ part.
+            IsAllWhole self.old.schema part)) }
         ensures damaged { IfErr result (λ e. IfSome (slice_get self.old.parts i) (λ part.
             OnDamage e (IsRowsDamage self.old.schema part.footer part.number part.reader))) }
 
@@ -152,6 +156,10 @@ impl<R: SealedReader> Snapshot<R> {
         requires block { IfSome (slice_get self.old.parts i) (λ part. b < length part.footer.blocks) }
         ensures live { IfOk result (λ live. IfSome (slice_get self.old.parts i) (λ part.
             AreLiveIn self.old.schema part b live.items)) }
+
+        // Rows are given of a block alone whose bytes are those of rows.
+        ensures whole { IfOk result (λ _. IfSome (slice_get self.old.parts i) (λ part.
+            IsWhole self.old.schema part b)) }
         ensures damaged { IfErr result (λ e. IfSome (slice_get self.old.parts i) (λ part.
             OnDamage e (IsBlockDamage self.old.schema part b))) }
 

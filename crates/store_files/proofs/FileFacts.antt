@@ -1,28 +1,24 @@
 -- Files that are attached, and readers that go back.
-use Rattle.std.proofs.Common.{◌≡◌, ◌≢◌, ◌⊎◌, inl, inr, refl, ap, sym, subst, ◌∙◌, ℕ, zero, suc, ◌+◌, ◌<◌, ◌≤◌, List, [], ◌∷◌, ◌++◌, length, take, get_or, slice_get, Option, Some, None, IsSome, Result, Ok, Err, IfOk, IfErr, arith}
-use Rattle.std.specs.List.{AllByRecursion}
-use Rattle.pk_values.specs.Schemas.{Layout, schema_fault}
+use Rattle.std.proofs.Common.{◌≡◌, ◌≢◌, inl, inr, refl, ap, sym, subst, ◌∙◌, ℕ, zero, suc, ◌+◌, ◌≤◌, List, [], ◌∷◌, ◌++◌, length, take, slice_get, Option, Some, None, IsSome, Result, Ok, Err, IfOk, IfErr, arith}
+use Rattle.pk_values.specs.Schemas.{Layout}
 use Rattle.pk_values.specs.declared.cells.Value.{Value}
 use Rattle.column_page.specs.declared.footers.Footer.{Footer}
 use Rattle.dev_traits.specs.Causes.{Counts, HasReadCause}
 use Rattle.dev_traits.specs.Image.{Image, file}
 use Rattle.dev_traits.specs.Reader.{ReaderView}
 use Rattle.dev_traits.specs.View.{View, Told}
-use Rattle.dev_traits.specs.declared.faults.Damaged.{Damaged}
 use Rattle.dev_traits.specs.declared.faults.Part.TheVariants as part
-use Rattle.dev_traits.specs.declared.faults.Shown.{Shown}
 use Rattle.dev_traits.specs.declared.faults.Shown.TheVariants.{Form, Absent}
 use Rattle.dev_traits.specs.declared.faults.ReadFault.{ReadFault}
 use Rattle.dev_traits.specs.declared.faults.ReadFault.TheVariants as read
 use Rattle.dev_traits.proofs.Counting.{counts_then}
 use Rattle.rowsets.specs.Live.{Files}
-use Rattle.segment_form.specs.Segments.{footer_of}
-use Rattle.segment_read.specs.Footers.{FooterShown, HasFooter}
+use Rattle.segment_read.specs.Footers.{FooterShown}
 use Rattle.segment_read.specs.Reads.{IsDamage, KnowsFooter, OfFile, OnDamage}
 use Rattle.segment_read.specs.Rows.{IsFileOf, IsNoFile, IsSegmentOf}
 use Rattle.segment_read.specs.declared.segments.Segment.{Segment}
 use Rattle.store_files.proofs.BlockFacts.{on_damage}
-use Rattle.store_files.specs.Named.{faults_in, AreAttached, AreStored, FileShown, HasOtherRows, IsAttached, IsDamageOfOne, IsFileDamage, IsNotStored, IsStored}
+use Rattle.store_files.specs.Named.{faults_in, AreAttached, AreStored, FileShown, IsAttached, IsDamageOfOne, IsFileDamage, IsNotStored, IsStored}
 use Rattle.store_files.specs.declared.attaching.NamedFile.{NamedFile}
 
 some_one : {X : Type 0} (x y : X) → Some x ≡ Some y → x ≡ y

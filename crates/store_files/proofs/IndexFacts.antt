@@ -1,5 +1,5 @@
 -- The index of live rows: their keys and places, and the codes of these keys.
-use Rattle.std.proofs.Common.{◌≡◌, ◌↔◌, ◌⊎◌, inl, inr, refl, ap, sym, subst, ◌∙◌, ℕ, zero, suc, ◌+◌, List, [], ◌∷◌, ◌++◌, map, slice_get, Option, Some, None, Bool, true, false, ◌||◌, ◌==◌, cond, eq-eqb, arith, IsTrue}
+use Rattle.std.proofs.Common.{◌≡◌, ◌⊎◌, inl, inr, refl, ap, sym, subst, ◌∙◌, ℕ, zero, suc, ◌+◌, List, [], ◌∷◌, ◌++◌, map, slice_get, Option, Some, None, Bool, true, false, ◌||◌, ◌==◌, cond, eq-eqb, arith}
 use Rattle.std.specs.List.{list_any, AllByRecursion}
 use Rattle.std.specs.Ordering.{eq_by_cmp}
 use Rattle.std.specs.Cmp.{eq_by_cmp_equiv}
@@ -10,15 +10,15 @@ use Rattle.std.proofs.lemmas.Map.Views.{exact_unsigned_eq, tells_apart}
 use Rattle.pk_values.specs.Order.{key_cmp}
 use Rattle.pk_values.specs.OrderFacts.{key_total, key_exact}
 use Rattle.pk_values.specs.SchemaFacts.{fits_all-take}
-use Rattle.pk_values.specs.Schemas.{Layout, fits_key, fits_row, key_of, schema_fault}
+use Rattle.pk_values.specs.Schemas.{Layout, fits_key, key_of}
 use Rattle.pk_values.specs.declared.cells.Value.{Value}
 use Rattle.key_code.specs.KeyCode.{key_code}
 use Rattle.pk_model.specs.Tables.{Rows}
 use Rattle.index_level0.specs.declared.place.Place.{Place}
-use Rattle.rowsets.specs.Live.{Part, Files, Live, live, is_dead, names, FilesOnce, HasKey, Index, IsIndex, StandsFor}
+use Rattle.rowsets.specs.Live.{Part, Files, Live, live, is_dead, names, FilesOnce, HasKey, IsIndex, StandsFor}
 use Rattle.rowsets.specs.Marks.{same_place, stands_in}
 use Rattle.rowsets.specs.Ending.{Moved, AreMoved}
-use Rattle.rowsets.specs.Indexing.{CodeMap, CodeMove, Move, by_code, code_cmp, code_moves, merged_place, place_after, put_all}
+use Rattle.rowsets.specs.Indexing.{CodeMap, CodeMove, Move, code_cmp, code_moves, merged_place, place_after, put_all}
 use Rattle.rowsets.proofs.IndexFacts.{map_stores_moves, one_index, places_make_index, stored_moves_move_index}
 use Rattle.rowsets.proofs.LiveFacts.{live-named, same_place-exact, same_place-same}
 use Rattle.rowsets.proofs.StepFacts.{key_codes_tell}

@@ -1,19 +1,17 @@
 -- The codes of live rows, block by block.
-use Rattle.std.proofs.Common.{◌≡◌, refl, ap, sym, subst, ◌∙◌, ℕ, zero, suc, ◌+◌, ◌*◌, ◌-◌, ◌/◌, ◌<◌, ◌≤◌, List, [], ◌∷◌, ◌++◌, length, take, drop, slice_get, Some, None, Bool, true, false, ◌==◌, cond, nat_lt, arith, append_assoc, All, IsTrue, inl}
+use Rattle.std.proofs.Common.{◌≡◌, refl, ap, sym, subst, ◌∙◌, ℕ, zero, suc, ◌+◌, ◌*◌, ◌-◌, ◌/◌, ◌<◌, ◌≤◌, List, [], ◌∷◌, ◌++◌, length, take, drop, slice_get, Some, Bool, true, false, ◌==◌, cond, arith, append_assoc, All, IsTrue, inl}
 use Rattle.std.specs.List.{list_any}
-use Rattle.std.proofs.lemmas.Bool.{ltb-true, ltb-false}
+use Rattle.std.proofs.lemmas.Bool.{eqb-true, eqb-false}
+use Rattle.std.proofs.lemmas.Option.{slice_get_within}
 use Rattle.pk_values.specs.Schemas.{Layout, fits_row, key_of}
 use Rattle.pk_values.specs.declared.cells.Value.{Value}
 use Rattle.key_code.specs.KeyCode.{key_code}
-use Rattle.column_page.specs.declared.footers.BlockMark.{BlockMark}
 use Rattle.column_page.specs.declared.footers.Footer.{Footer}
 use Rattle.dev_traits.specs.Reader.{ReaderView}
-use Rattle.dev_traits.specs.declared.faults.Damaged.{Damaged}
 use Rattle.dev_traits.specs.declared.faults.ReadFault.{ReadFault}
-use Rattle.dev_traits.specs.declared.faults.ReadFault.TheVariants as read
 use Rattle.pk_model.specs.Lawful.{most_code_bytes}
 use Rattle.rowsets.specs.Indexing.{CodeMove}
-use Rattle.segment_form.specs.Segments.{block_marks, blocks_of, footer_of}
+use Rattle.segment_form.specs.Segments.{blocks_of}
 use Rattle.segment_form.proofs.Blocks.{length-block_marks}
 use Rattle.segment_form.proofs.RowsInBlocks.{length-blocks_of}
 use Rattle.dev_traits.specs.declared.faults.Part.TheVariants as part
@@ -21,7 +19,7 @@ use Rattle.segment_read.specs.Blocks.{BlockShown}
 use Rattle.segment_read.specs.Reads.{block_in, IsDamage, OfBlock, OfFile, OnDamage}
 use Rattle.segment_read.specs.Rows.{IsNoSegment, IsSegmentOf}
 use Rattle.store_files.proofs.BlockFacts.{block_is, on_damage}
-use Rattle.store_files.specs.Keys.{code_at, live_codes, HasLive, HasLongCode, HaveShortCodes, IsKeyDamage, IsKeysDamage, IsNoShortSegment}
+use Rattle.store_files.specs.Keys.{code_at, live_codes, HasLive, HasLongCode, IsKeyDamage, IsKeysDamage, IsNoShortSegment, IsWhole}
 
 abbrev Row : Type 0
 Row = List Value
@@ -253,3 +251,25 @@ pub block_damage : (s : Layout) (f : Footer) (number : ℕ) (dead : List ℕ) (r
 block_damage s f number dead reader b e there live h =
     on_damage e (IsDamage number (part.Block b) (λ shown. OfFile reader (λ file. OfBlock f b (λ mark. BlockShown s mark (block_in file mark) shown)))) (IsKeyDamage s f number dead reader b)
     (λ d is. record { there = there; live = live; is = record { file_is = is.file_is; part_is = is.part_is; shows = λ file told mark got. inl (is.shows file told mark got) } }) h
+
+-- ---- no damage is passed over
+
+-- the blocks below this one that have a live row are of rows, and so is this one, where it has one
+pub whole_step : (s : Layout) (f f' : Footer) (old now : ReaderView) (dead : List ℕ) (b : ℕ) → f' ≡ f → now.bytes ≡ old.bytes
+    → OfFile old (λ file. (i : ℕ) → i < b → HasLive dead f.rows i → IsWhole s f file i)
+    → OfFile now (λ file. HasLive dead f'.rows b → IsWhole s f' file b)
+    → OfFile old (λ file. (i : ℕ) → i < b + 1 → HasLive dead f.rows i → IsWhole s f file i)
+whole_step s f f' old now dead b kept bytes below this file told i lt live = go (i == b) refl
+  where
+    go : (t : Bool) → (i == b) ≡ t → IsWhole s f file i
+    go true e =
+        let at = eqb-true i b e in
+        let here = subst (λ (g : Footer). HasLive dead g.rows b) (sym kept) (subst (λ (n : ℕ). HasLive dead f.rows n) at live) in
+        subst (λ (n : ℕ). IsWhole s f file n) (sym at) (subst (λ (g : Footer). IsWhole s g file b) kept (this file (bytes ∙ told) here))
+    go false e = let apart = eqb-false i b e in below file told i (omega arith) live
+
+-- a footer tells of no block above its last
+pub whole_all : (s : Layout) (f : Footer) (file : List ℕ) (dead : List ℕ) (n : ℕ) → n ≡ length f.blocks
+    → ((i : ℕ) → i < n → HasLive dead f.rows i → IsWhole s f file i) → (i : ℕ) → HasLive dead f.rows i → IsWhole s f file i
+whole_all s f file dead n count below i live mark at =
+    let lt = slice_get_within f.blocks i mark at in below i (omega arith) live mark at

@@ -1,5 +1,5 @@
 -- The codes of the keys of a file's live rows, with the places of these rows.
-use Rattle.std.specs.Prelude.{◌≡◌, ◌⊎◌, ℕ, ◌+◌, ◌*◌, ◌<◌, ◌≤◌, ◌==◌, List, [], ◌∷◌, length, slice_get, Some, true, false, cond}
+use Rattle.std.specs.Prelude.{◌≡◌, ◌⊎◌, ℕ, ◌+◌, ◌*◌, ◌<◌, ◌≤◌, ◌==◌, List, [], ◌∷◌, length, slice_get, Some, false, cond}
 use Rattle.std.specs.List.{list_any}
 use Rattle.pk_values.specs.Schemas.{Layout, key_of}
 use Rattle.pk_values.specs.declared.cells.Value.{Value}
@@ -41,6 +41,10 @@ pub record HasLive (dead : List ℕ) (rows b : ℕ) : Type 0 where
   pub within : row < b * 1024 + 1024
   pub there : row < rows
   pub live : list_any (λ r. r == row) dead ≡ false
+
+-- the block has rows, and its bytes are theirs
+abbrev pub IsWhole : Layout → Footer → List ℕ → ℕ → Type 0
+IsWhole s f file b = OfBlock f b (λ mark. (rows : List (List Value)) × AreTheRows s mark (block_in file mark) rows)
 
 -- the block has rows, and the key of a live one of them has a code that is too long
 pub record HasLongKey (s : Layout) (dead : List ℕ) (b : ℕ) (mark : BlockMark) (bytes : List ℕ) (shown : Shown) : Type 0 where

@@ -135,7 +135,7 @@ pub fn give_back_all<S: Store>(store: &mut S, segments: Vec<Segment<S::Reader>>)
 /// The segments of files of the store, one each in their order.
 ///
 /// # Errors
-/// Those of attaching the first file that isn't attached. All readers went back to the store.
+/// Those of attaching the one of the files that isn't attached. All readers went back to the store.
 pub fn attach_all<S: Store>(
     alloc: Global,
     store: &mut S,

@@ -8,7 +8,7 @@ ghost use Rattle.dev_traits.specs.Reader.{SameFile};
 ghost use Rattle.pk_model.specs.Lawful.{most_code_bytes};
 ghost use Rattle.segment_read.specs.Reads.{KnowsFooter, OfFile, OnDamage};
 ghost use Rattle.segment_read.specs.Rows.{IsSegmentOf};
-ghost use Rattle.store_files.specs.Keys.{code_at, live_codes, HasLongCode, IsKeyDamage, IsKeysDamage, IsNoShortSegment};
+ghost use Rattle.store_files.specs.Keys.{code_at, live_codes, HasLongCode, HasLive, IsKeyDamage, IsKeysDamage, IsNoShortSegment, IsWhole};
 
 use del_vector::DelVector;
 use dev_traits::{Damaged, Part, ReadFault, SealedReader, Shown};
@@ -130,6 +130,8 @@ fn add_block<R: SealedReader>(
     requires there { b < length segment.old.footer.blocks }
     ensures added { OnOk result (OfFile (R.view segment.old.reader) (λ file. (rows : List (List Value)) → IsSegmentOf schema.now segment.old.footer file rows
         → keys.new.items ≡ keys.old.items ++ live_codes schema.now segment.old.number dead.now (b * 1024) (take 1024 (drop (b * 1024) rows)))) }
+    ensures whole { OnOk result (OfFile (R.view segment.old.reader) (λ file. HasLive dead.now segment.old.footer.rows b
+        → IsWhole schema.now segment.old.footer file b)) }
     ensures damaged { IfErr result (λ e. OnDamage e (IsKeyDamage schema.now segment.old.footer segment.old.number dead.now (R.view segment.old.reader) b)) }
     ensures intact { IfErr result (λ e. OnDamage e (λ damaged. OfFile (R.view segment.old.reader) (IsNoShortSegment schema.now segment.old.footer dead.now))) }
     ensures same { SameFile (R.view segment.old.reader) (R.view segment.new.reader) }
@@ -159,8 +161,8 @@ fn add_block<R: SealedReader>(
     }
 }
 
-/// The codes of the keys of a file's live rows with the places of these rows, in the file's order, by one read for each
-/// block that has a live row.
+/// The codes of the keys of a file's live rows with the places of these rows, in the file's order, by at most one read
+/// for each block.
 ///
 /// # Errors
 /// `Damaged` tells a block with a live row: what `block` tells of it, and `Form` where the key of a live row has a code
@@ -174,6 +176,10 @@ pub fn live_keys<R: SealedReader>(
     requires { KnowsFooter schema.now (R.view segment.old.reader) segment.old.footer }
     ensures keys { IfOk result (λ keys. OfFile (R.view segment.old.reader) (λ file. (rows : List (List Value)) → IsSegmentOf schema.now segment.old.footer file rows
         → keys.items ≡ live_codes schema.now segment.old.number dead.now 0 rows)) }
+
+    // No damage is passed over: each block with a live row was read as the rows that its bytes stand for.
+    ensures whole { OnOk result (OfFile (R.view segment.old.reader) (λ file. (b : ℕ) → HasLive dead.now segment.old.footer.rows b
+        → IsWhole schema.now segment.old.footer file b)) }
     ensures damaged { IfErr result (λ e. OnDamage e (IsKeysDamage schema.now segment.old.footer segment.old.number dead.now (R.view segment.old.reader))) }
 
     // No damage is told of the file of a segment whose live rows have keys with short codes.

@@ -1,5 +1,6 @@
 -- What applying leaves, in the words of its clauses.
 use Rattle.std.proofs.Common.{◌≡◌, ap, sym, ◌∙◌, ℕ, ◌+◌, ◌-◌, ◌^◌, List, [], ◌∷◌, ◌++◌, min, arith}
+use Rattle.std.specs.List.{AllByRecursion}
 use Rattle.std.proofs.lemmas.List.{map-append}
 use Rattle.dev_traits.specs.Causes.{Counts}
 use Rattle.dev_traits.specs.View.{View}
@@ -14,7 +15,7 @@ use Rattle.journal_form.specs.Versions.{Rowset as ListedRowset}
 use Rattle.tablet_state.specs.Contents.{contents_of, index_of}
 use Rattle.tablet_state.specs.State.{Has, SegmentView, Shown, StandsThroughout, Steps, reader_faults, reads_of}
 use Rattle.tablet_state.specs.Readies.{IsChangeOf, IsMade, NewSegment, next_contents}
-use Rattle.tablet_state.specs.Adopting.{AllJoined, Joined}
+use Rattle.tablet_state.specs.Adopting.{AllJoined, AreAdopted, Joined}
 use Rattle.tablet_state.proofs.Counting.{adopted_unfailed, one_more_fault}
 
 abbrev pub ChangeOf : {S : Type 0} → Shown S → Book → Load → List NewSegment → List Place → List CodeMove → Type 0
@@ -49,5 +50,13 @@ pub failed : (before now maker : ℕ) (first : ℕ) (made : List NewSegment) (se
 failed before now maker first made segs segs' counts j =
     one_more_fault before now maker (reader_faults segs) (reader_faults segs') counts (ap reader_faults j.joined ∙ adopted_unfailed first j.done segs j.more j.adopted)
 
-pub reads_on : (segs more segs' : List SegmentView) → segs' ≡ segs ++ more → (xs : List (ℕ × ℕ)) × (reads_of segs' ≡ reads_of segs ++ xs)
-reads_on segs more segs' is = (reads_of more, ap reads_of is ∙ map-append (λ (g : SegmentView). (g.number, g.reader.reads)) segs more)
+-- readers of new files have read nothing
+unread : (first : ℕ) (made : List NewSegment) (more : List SegmentView) → AreAdopted first made more → AllByRecursion (λ (p : ℕ × ℕ). p.1 ≡ 0) (reads_of more)
+unread first [] [] are = tt
+unread first [] (g ∷ more) are = absurd are
+unread first (m ∷ made) [] are = absurd are
+unread first (m ∷ made) (g ∷ more) are = (are.0.new.reads, unread (first + 1) made more are.1)
+
+pub reads_on : (first : ℕ) (made : List NewSegment) (segs more segs' : List SegmentView) → segs' ≡ segs ++ more → AreAdopted first made more
+    → (xs : List (ℕ × ℕ)) × (reads_of segs' ≡ reads_of segs ++ xs) × AllByRecursion (λ (p : ℕ × ℕ). p.1 ≡ 0) xs
+reads_on first made segs more segs' is are = (reads_of more, ap reads_of is ∙ map-append (λ (g : SegmentView). (g.number, g.reader.reads)) segs more, unread first made more are)

@@ -10,7 +10,8 @@ use Rattle.rowsets.specs.Live.{Files}
 use Rattle.rowsets.specs.Indexing.{CodeMap}
 use Rattle.journal_form.specs.Versions.{Rowset as ListedRowset}
 use Rattle.version_journal.specs.Images.{IsSaid}
-use Rattle.tablet_state.specs.Stands.{AreSegments, all_versions, files_in}
+use Rattle.pk_model.specs.Durable.{durable}
+use Rattle.tablet_state.specs.Stands.{AreSegments, Stands, all_versions, files_in}
 use Rattle.tablet_state.specs.Turns.{StandsEither}
 use Rattle.tablet_state.specs.State.{AreReadAs, Has, HasBook, IsOpen, Keeps, Rests, SegmentView, Shown, named_files}
 use Rattle.tablet_state.proofs.Chain.{ready_still, settled_still}
@@ -74,6 +75,15 @@ has_rests view st new b r h =
 -- where a state is seen as x
 abbrev pub RestsFrom : {S : Type 0} → (S → View) → Shown S → Shown S → Type 0
 RestsFrom view new x = Rests view x new
+
+-- what an open state's store may leave after calls that write nothing
+abbrev pub StandsAfter : {S : Type 0} → (S → View) → View → Shown S → Type 0
+StandsAfter view v x = (b : Book) → Has view x b → x.closed ≡ None → EachImage v (Stands x.contents.schema (durable b))
+
+pub stands_after : {S : Type 0} (view : S → View) (v : View) (x : Shown S) → Calm (view x.store) v → StandsAfter view v x
+stands_after view v x calm b has open_ =
+    each_still (Stands x.contents.schema (durable b)) (view x.store) v (calm_leaves (view x.store) v calm)
+    (each_stands (view x.store) x.area x.end x.contents b (has.opened open_).images)
 
 -- a closed state
 pub closes : {S : Type 0} (view : S → View) (st new : Shown S) (b : Book) (seq : ℕ) → new.closed ≡ Some seq → view new.store ≡ view st.store → new.contents.schema ≡ st.contents.schema → st.closed ≡ None → Has view st b

@@ -26,7 +26,7 @@ use Rattle.tablet_state.specs.State.{book_place}
 use Rattle.tablet_state.specs.Readies.{AreSealed, IsChangeOf, IsDeed, IsLed, NewSegment, new_files, next_contents}
 use Rattle.tablet_state.proofs.HoldFacts.{publication_is_held}
 
-told_same : (s : Layout) (first : ℕ) (files : List (List (List Value))) (made : List NewSegment) → AreSealed s files made → new_files first made ≡ told_files first files
+pub told_same : (s : Layout) (first : ℕ) (files : List (List (List Value))) (made : List NewSegment) → AreSealed s files made → new_files first made ≡ told_files first files
 told_same s first [] [] are = refl
 told_same s first [] (m ∷ made) are = absurd are
 told_same s first (rows ∷ files) [] are = absurd are
@@ -53,6 +53,7 @@ deed_told c b load made dead entries body current lawful r is =
       stale = r.publication.stale;
       ready = r.publication.ready;
       of_new = r.publication.of_new;
+      of_rows = r.publication.of_rows;
       found = λ q. is.same q ∙ r.publication.found q;
       come = r.publication.come;
     } in

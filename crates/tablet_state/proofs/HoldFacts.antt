@@ -69,7 +69,7 @@ nothing e = absurd (cc e)
 
 -- ---- the numbers that are held
 
-numbers_told : (first : ℕ) (files : List (List (List Value))) → numbers_of (told_files first files) ≡ numbered first files
+pub numbers_told : (first : ℕ) (files : List (List (List Value))) → numbers_of (told_files first files) ≡ numbered first files
 numbers_told first [] = refl
 numbers_told first (rows ∷ files) = ap (λ (ns : List ℕ). first ∷ ns) (numbers_told (first + 1) files)
 

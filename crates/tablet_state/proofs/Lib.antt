@@ -18,3 +18,6 @@ pub mod ReadyFacts
 pub mod Refusing
 pub mod Opening
 pub mod RowFacts
+pub mod Lending
+pub mod KeptFacts
+pub mod Living

@@ -22,7 +22,7 @@ one_of P xs i row all is = subst P (sym (unwrap_or-slice_get xs i row) ∙ ap (�
 none_some : (row : List Value) → None ≡ Some row → ⊥
 none_some row e = cc
 
-files_of_last : (P : NewFile → Type 0) (vs : List Version) (v : Version) → AllByRecursion P (files_in (vs ++ v ∷ [])) → AllByRecursion P (map told_file (files_of v.rowsets))
+pub files_of_last : (P : NewFile → Type 0) (vs : List Version) (v : Version) → AllByRecursion P (files_in (vs ++ v ∷ [])) → AllByRecursion P (map told_file (files_of v.rowsets))
 files_of_last P [] v h = all-first P (map told_file (files_of v.rowsets)) [] h
 files_of_last P (w ∷ vs) v h = files_of_last P vs v (all-last P (map told_file (files_of w.rowsets)) (files_in (vs ++ v ∷ [])) h)
 

@@ -116,7 +116,7 @@ marked_rowsets files cs h (fs ∷ rs) fit =
     ap (λ (r : List Part). r ∷ map parts (marked cs rs)) (marked_rowset files cs h fs p.0)
     ∙ ap (λ (v : Rowsets). marks.marked (places_of_changes cs) (parts fs) ∷ v) (marked_rowsets files cs h rs p.1)
 
-whole_parts : (files : List NewFile) → parts (map whole_file files) ≡ map all_live (numbers_of files)
+pub whole_parts : (files : List NewFile) → parts (map whole_file files) ≡ map all_live (numbers_of files)
 whole_parts [] = refl
 whole_parts (f ∷ files) = ap (λ (ps : List Part). all_live f.file ∷ ps) (whole_parts files)
 

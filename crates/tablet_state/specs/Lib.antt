@@ -3,6 +3,7 @@ pub mod Holding
 pub mod Turns
 pub mod Contents
 pub mod State
+pub mod Snapshots
 pub mod Readies
 pub mod Opening
 pub mod Adopting

@@ -41,11 +41,14 @@ abbrev pub AreSealed : Layout → List (List (List Value)) → List NewSegment �
 AreSealed s [] [] = ⊤
 AreSealed s [] (made ∷ rest) = ⊥
 AreSealed s (rows ∷ files) [] = ⊥
-AreSealed s (rows ∷ files) (made ∷ rest) = AreSegmentRows s rows × (made.0 ≡ Some (segment_file s rows)) × (made.1 ≡ footer_of s rows) × AreSealed s files rest
+AreSealed s (rows ∷ files) (made ∷ rest) = AreSegmentRows s rows × (made.0 ≡ Some (segment_file s rows))
+    × (made.1 ≡ footer_of s rows) × AreSealed s files rest
 
--- The change is that of a load over a book: its files, numbered from `first` on, are segments of rows, the rows at the places are those that the
+-- The change is that of a load over a book: its files, numbered from `first` on, are segments of rows, the rows at the
+-- places are those that the
 -- load takes away, and the entries tell where the keys that it touches stand from then on.
-pub record IsChangeOf (s : Layout) (index : Index) (b : Book) (load : Load) (first : ℕ) (made : List NewSegment) (dead : List Place) (entries : List CodeMove) : Type 0 where
+pub record IsChangeOf (s : Layout) (index : Index) (b : Book) (load : Load) (first : ℕ) (made : List NewSegment)
+    (dead : List Place) (entries : List CodeMove) : Type 0 where
   pub files : List (List (List Value))
   pub sealed : AreSealed s files made
   pub moves : List Move
@@ -58,8 +61,10 @@ abbrev pub next_contents : ℕ → List ListedRowset → List CodeMove → Conte
 next_contents count current entries c =
     record c { edit = c.edit + 1; older = c.older ++ c.current ∷ []; current = current; next_file = c.next_file + count; codes = put_all entries c.codes }
 
--- A deed: new files, a record's body and what is to be held next make of what is held of a book what is held of the book that is left.
-pub record IsDeed (c : Contents) (b : Book) (first : ℕ) (made : List NewSegment) (body : List ℕ) (next : Contents) (left : Book) : Type 0 where
+-- A deed: new files, a record's body and what is to be held next make of what is held of a book what is held of the
+-- book that is left.
+pub record IsDeed (c : Contents) (b : Book) (first : ℕ) (made : List NewSegment) (body : List ℕ) (next : Contents)
+    (left : Book) : Type 0 where
   pub files : List (List (List Value))
   pub sealed : AreSealed c.schema files made
   pub told : Record
@@ -67,9 +72,12 @@ pub record IsDeed (c : Contents) (b : Book) (first : ℕ) (made : List NewSegmen
   pub spelled : body ≡ record_bytes (c.edit + 1) told
   pub fits : RecordFits (c.edit + 1) told
   pub built : IsTrue (is_built told)
-  pub steps : (kept : List Entry) → (later : List Entry) × (step (standing_of c kept) told ≡ Some (standing_of next later))
-  pub holds : (stored : Files) (kept : List Entry) → Holds c.schema stored (standing_of c kept) (index_of c) (begun_of c) b
-      → Holds next.schema (with_files first files stored) (standing_of next (steps kept).0) (index_of next) (begun_of next) left
+  pub steps : (kept : List Entry) → (later : List Entry)
+      × (step (standing_of c kept) told ≡ Some (standing_of next later))
+  pub holds : (stored : Files) (kept : List Entry)
+      → Holds c.schema stored (standing_of c kept) (index_of c) (begun_of c) b
+      → Holds next.schema (with_files first files stored) (standing_of next (steps kept).0) (index_of next)
+      (begun_of next) left
   pub schema : next.schema ≡ c.schema
   pub begun : plan_place c.plan ≡ book_place b.plan → plan_place next.plan ≡ book_place left.plan
   pub closed : left.closed ≡ b.closed
@@ -78,16 +86,19 @@ pub record IsDeed (c : Contents) (b : Book) (first : ℕ) (made : List NewSegmen
 pub record Leads (c next : Contents) (body : List ℕ) (told : Record) : Type 0 where
   pub spelled : body ≡ record_bytes (c.edit + 1) told
   pub fits : RecordFits (c.edit + 1) told
-  pub steps : (kept : List Entry) → (later : List Entry) × (step (standing_of c kept) told ≡ Some (standing_of next later))
+  pub steps : (kept : List Entry) → (later : List Entry)
+      × (step (standing_of c kept) told ≡ Some (standing_of next later))
 
 -- new files whose numbers have places in the fields of a record
 pub record AreInFields (files : List NewFile) : Type 0 where
   pub count : length files < 2 ^ 64
   pub each : All (λ f. (f.file < 2 ^ 64) × (f.rows < 2 ^ 32)) files
 
--- The next version and the body of its record, made of the version before: the rows at these places are dead in it, and the new files are one
+-- The next version and the body of its record, made of the version before: the rows at these places are dead in it, and
+-- the new files are one
 -- rowset more.
-pub record IsPublished (before : List ListedRowset) (files : List NewFile) (dead : List Place) (version edit : ℕ) (current : List ListedRowset) (body : List ℕ) : Type 0 where
+pub record IsPublished (before : List ListedRowset) (files : List NewFile) (dead : List Place) (version edit : ℕ)
+    (current : List ListedRowset) (body : List ℕ) : Type 0 where
   pub changed : List DeadRows
   pub places : places_of_changes changed ≡ dead
   pub due : changes_fit 0 (files_of (published_rowsets files before)) changed ≡ true
@@ -96,7 +107,8 @@ pub record IsPublished (before : List ListedRowset) (files : List NewFile) (dead
   pub spelled : body ≡ record_bytes edit (Publish version files changed)
 
 -- What is ready leads on to a version with these files, where rows are dead that the record tells.
-pub record IsLed (c : Contents) (files : List NewFile) (dead : List Place) (body : List ℕ) (next : Contents) : Type 0 where
+pub record IsLed (c : Contents) (files : List NewFile) (dead : List Place) (body : List ℕ)
+    (next : Contents) : Type 0 where
   pub version : ℕ
   pub changed : List DeadRows
   pub leads : Leads c next body (Publish version files changed)
@@ -115,7 +127,8 @@ new_files first [] = []
 new_files first (made ∷ rest) = record { file = first; rows = made.1.rows } ∷ new_files (first + 1) rest
 
 -- What is ready goes on from what is held: its record leads to the next version, for which all memory is taken.
-pub record IsMade (view : View) (c : Contents) (room : Room) (made : List NewSegment) (dead : List Place) (entries : List CodeMove) (body : List ℕ) (current : List ListedRowset) : Type 0 where
+pub record IsMade (view : View) (c : Contents) (room : Room) (made : List NewSegment) (dead : List Place)
+    (entries : List CodeMove) (body : List ℕ) (current : List ListedRowset) : Type 0 where
   pub unworn : worn_of c ≡ None
   pub many : length c.older + 1 < 1000
   pub few : length made < 2 ^ 32

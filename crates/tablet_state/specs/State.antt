@@ -158,7 +158,8 @@ pub record HasBook (view : View) (area end : ℕ) (c : Contents) (segments : Lis
   pub images : HasStore view area end c b
   pub read : AreReadAs c.schema images.stored segments (named_files c)
 
--- The state has this book. Once a fault closed it, each image stands for the book before that call or after it.
+-- The state has this book. Once a fault closed it, each image stands for the book before some call at that place or after it; which call that
+-- was says the clause `any_moment` of the call that closed it.
 pub record Has {S : Type 0} (view : S → View) (st : Shown S) (b : Book) : Type 0 where
   pub same : st.closed ≡ b.closed
   pub opened : st.closed ≡ None → HasBook (view st.store) st.area st.end st.contents st.segments b

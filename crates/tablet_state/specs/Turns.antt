@@ -30,13 +30,17 @@ use Rattle.tablet_state.specs.Holding.{Holds, IsMerged, IsPublication, told_file
 
 -- an image whose journal means what is held, and which has its files, stands for the book
 abbrev pub HeldStands : Type 0
-HeldStands = (s : Layout) (stored : Files) (m : Standing) (index : Index) (plan : Option Rowsets) (b : Book) (image : Image)
-    → Holds s stored m index plan b → IsSaid image m → AreSegments s stored (files_in (all_versions m.versions)) image → Stands s (durable b) image
+HeldStands = (s : Layout) (stored : Files) (m : Standing) (index : Index) (plan : Option Rowsets) (b : Book)
+    (image : Image)
+    → Holds s stored m index plan b → IsSaid image m → AreSegments s stored (files_in (all_versions m.versions)) image
+    → Stands s (durable b) image
 
 -- and its rows fit, each at its key, as making a load ready asks
 abbrev pub HeldRowsFit : Type 0
-HeldRowsFit = (s : Layout) (stored : Files) (m : Standing) (index : Index) (plan : Option Rowsets) (b : Book) (image : Image)
-    → Holds s stored m index plan b → AreSegments s stored (files_in (all_versions m.versions)) image → AreRows s b.current
+HeldRowsFit = (s : Layout) (stored : Files) (m : Standing) (index : Index) (plan : Option Rowsets) (b : Book)
+    (image : Image)
+    → Holds s stored m index plan b → AreSegments s stored (files_in (all_versions m.versions)) image
+    → AreRows s b.current
 
 -- each image of a journal with one more record, or without it, stands for the book before the call or after it
 abbrev pub StandsEither : Layout → Book → ℕ → Call → Image → Type 0
@@ -45,33 +49,44 @@ StandsEither s b seq c image = Stands s (durable b) image ⊎ Stands s (durable 
 -- new files of rows are adopted, under the numbers from the first on
 abbrev pub AreNew : Layout → ℕ → List (List (List Value)) → Image → Type 0
 AreNew s first [] image = ⊤
-AreNew s first (rows ∷ files) image = IsSegment s rows (record { file = first; rows = length rows }) image × AreNew s (first + 1) files image
+AreNew s first (rows ∷ files) image = IsSegment s rows (record { file = first; rows = length rows }) image
+    × AreNew s (first + 1) files image
 
--- An image has the files of what is held, and its journal means what it did, or the step that brings new files, and then it has these.
-pub record Means (s : Layout) (stored : Files) (m t : Standing) (first : ℕ) (files : List (List (List Value))) (image : Image) : Type 0 where
+-- An image has the files of what is held, and its journal means what it did, or the step that brings new files, and
+-- then it has these.
+pub record Means (s : Layout) (stored : Files) (m t : Standing) (first : ℕ) (files : List (List (List Value)))
+    (image : Image) : Type 0 where
   pub old : AreSegments s stored (files_in (all_versions m.versions)) image
   pub meant : IsSaid image m ⊎ (IsSaid image t × AreNew s first files image)
 
 abbrev pub PublicationStands : Type 0
-PublicationStands = (s : Layout) (stored : Files) (m t : Standing) (index : Index) (plan : Option Rowsets) (b : Book) (seq : ℕ) (load : Load) (version first : ℕ) (files : List (List (List Value))) (changed : List DeadRows) (moves : List Move) (image : Image)
+PublicationStands = (s : Layout) (stored : Files) (m t : Standing) (index : Index) (plan : Option Rowsets) (b : Book)
+    (seq : ℕ) (load : Load) (version first : ℕ) (files : List (List (List Value))) (changed : List DeadRows)
+    (moves : List Move) (image : Image)
     → Holds s stored m index plan b → b.closed ≡ None → m.versions.next_file ≤ first
-    → step m (Publish version (told_files first files) changed) ≡ Some t → IsPublication s index b load first files (places_of_changes changed) moves
+    → step m (Publish version (told_files first files) changed) ≡ Some t
+    → IsPublication s index b load first files (places_of_changes changed) moves
     → Means s stored m t first files image → StandsEither s b seq (call.Load load) image
 
 abbrev pub CompactionStands : Type 0
-CompactionStands = (s : Layout) (stored : Files) (m t : Standing) (index : Index) (begun : Rowsets) (b : Book) (seq : ℕ) (p : Plan) (version first : ℕ) (files : List (List (List Value))) (changed : List DeadRows) (levels : Option LevelList) (image : Image)
+CompactionStands = (s : Layout) (stored : Files) (m t : Standing) (index : Index) (begun : Rowsets) (b : Book) (seq : ℕ)
+    (p : Plan) (version first : ℕ) (files : List (List (List Value))) (changed : List DeadRows)
+    (levels : Option LevelList) (image : Image)
     → Holds s stored m index (Some begun) b → b.closed ≡ None → b.plan ≡ Some p → m.versions.next_file ≤ first
-    → step m (Compact version (length begun) (told_files first files) changed levels) ≡ Some t → IsMerged s index begun p first files changed
+    → step m (Compact version (length begun) (told_files first files) changed levels) ≡ Some t
+    → IsMerged s index begun p first files changed
     → Means s stored m t first files image → StandsEither s b seq (call.End p.place) image
 
 abbrev pub FloorStands : Type 0
-FloorStands = (s : Layout) (stored : Files) (m t : Standing) (index : Index) (plan : Option Rowsets) (b : Book) (seq floor : ℕ) (image : Image)
+FloorStands = (s : Layout) (stored : Files) (m t : Standing) (index : Index) (plan : Option Rowsets) (b : Book)
+    (seq floor : ℕ) (image : Image)
     → Holds s stored m index plan b → b.closed ≡ None → step m (Floor floor) ≡ Some t
     → Means s stored m t 0 [] image → StandsEither s b seq (call.Expire floor) image
 
 -- ---- opening
 
--- What is read of an image that stands for a book, with the index that the places of its live rows make, is held of that book.
+-- What is read of an image that stands for a book, with the index that the places of its live rows make, is held of
+-- that book.
 abbrev pub OpeningHolds : Type 0
 OpeningHolds = (s : Layout) (b : Book) (image : Image) (stands : Stands s b image) (moved : List Moved)
     → AreMoved s (live stands.stored (parts_of (rowsets_of stands.standing.versions.current))) moved
@@ -79,8 +94,10 @@ OpeningHolds = (s : Layout) (b : Book) (image : Image) (stands : Stands s b imag
 
 -- a checkpoint changes nothing of what is held
 abbrev pub CheckpointHolds : Type 0
-CheckpointHolds = (s : Layout) (stored : Files) (m : Standing) (index : Index) (plan : Option Rowsets) (b : Book) (image : Image) (epoch : ℕ)
-    → Holds s stored m index plan b → IsMeant image (with_epoch epoch m) → Holds s stored (with_epoch epoch m) index plan b
+CheckpointHolds = (s : Layout) (stored : Files) (m : Standing) (index : Index) (plan : Option Rowsets) (b : Book)
+    (image : Image) (epoch : ℕ)
+    → Holds s stored m index plan b → IsMeant image (with_epoch epoch m)
+    → Holds s stored (with_epoch epoch m) index plan b
 
 -- ---- replies
 
@@ -90,26 +107,34 @@ IsStep s b seq c r left = MayReply b c r × (next s b seq c r ≡ left)
 
 -- a load whose record was committed
 abbrev pub PublishedIsAStep : Type 0
-PublishedIsAStep = (s : Layout) (stored : Files) (m t : Standing) (index : Index) (plan : Option Rowsets) (b : Book) (seq : ℕ) (load : Load) (version first : ℕ) (files : List (List (List Value))) (changed : List DeadRows)
-    → Holds s stored m index plan b → b.closed ≡ None → step m (Publish version (told_files first files) changed) ≡ Some t
+PublishedIsAStep = (s : Layout) (stored : Files) (m t : Standing) (index : Index) (plan : Option Rowsets) (b : Book)
+    (seq : ℕ) (load : Load) (version first : ℕ) (files : List (List (List Value))) (changed : List DeadRows)
+    → Holds s stored m index plan b → b.closed ≡ None
+    → step m (Publish version (told_files first files) changed) ≡ Some t
     → IsStep s b seq (call.Load load) (reply.Published version) (change s b seq (call.Load load))
 
 -- a load that wasn't published
 abbrev pub ManyVersionsIsAStep : Type 0
-ManyVersionsIsAStep = (s : Layout) (b : Book) (seq : ℕ) (load : Load) → b.closed ≡ None → is_full b ≡ true → IsStep s b seq (call.Load load) reply.ManyVersions b
+ManyVersionsIsAStep = (s : Layout) (b : Book) (seq : ℕ) (load : Load) → b.closed ≡ None → is_full b ≡ true
+    → IsStep s b seq (call.Load load) reply.ManyVersions b
 
 abbrev pub ClosedIsAStep : Type 0
-ClosedIsAStep = (s : Layout) (b : Book) (seq place : ℕ) (c : Call) → b.closed ≡ Some place → IsStep s b seq c (reply.Closed place) b
+ClosedIsAStep = (s : Layout) (b : Book) (seq place : ℕ) (c : Call) → b.closed ≡ Some place
+    → IsStep s b seq c (reply.Closed place) b
 
 abbrev pub FaultIsAStep : Type 0
-FaultIsAStep = (s : Layout) (b : Book) (seq n : ℕ) (load : Load) → b.closed ≡ None → is_full b ≡ false → IsStep s b seq (call.Load load) (reply.StoreFault n) (record b { closed = Some seq })
+FaultIsAStep = (s : Layout) (b : Book) (seq n : ℕ) (load : Load) → b.closed ≡ None → is_full b ≡ false
+    → IsStep s b seq (call.Load load) (reply.StoreFault n) (record b { closed = Some seq })
 
 abbrev pub DamageIsAStep : Type 0
-DamageIsAStep = (s : Layout) (b : Book) (seq : ℕ) (d : Damaged) (load : Load) → b.closed ≡ None → is_full b ≡ false → IsStep s b seq (call.Load load) (reply.Damaged d) (record b { closed = Some seq })
+DamageIsAStep = (s : Layout) (b : Book) (seq : ℕ) (d : Damaged) (load : Load) → b.closed ≡ None → is_full b ≡ false
+    → IsStep s b seq (call.Load load) (reply.Damaged d) (record b { closed = Some seq })
 
 abbrev pub MemoryIsAStep : Type 0
-MemoryIsAStep = (s : Layout) (b : Book) (seq : ℕ) (load : Load) → b.closed ≡ None → is_full b ≡ false → IsStep s b seq (call.Load load) reply.Memory b
+MemoryIsAStep = (s : Layout) (b : Book) (seq : ℕ) (load : Load) → b.closed ≡ None → is_full b ≡ false
+    → IsStep s b seq (call.Load load) reply.Memory b
 
 -- a number at its end goes before a book that is full
 abbrev pub WornIsAStep : Type 0
-WornIsAStep = (s : Layout) (b : Book) (seq n : ℕ) (load : Load) → b.closed ≡ None → 2 ^ 62 ≤ n → IsStep s b seq (call.Load load) (reply.Worn n) b
+WornIsAStep = (s : Layout) (b : Book) (seq n : ℕ) (load : Load) → b.closed ≡ None → 2 ^ 62 ≤ n
+    → IsStep s b seq (call.Load load) (reply.Worn n) b

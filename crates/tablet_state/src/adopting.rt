@@ -24,11 +24,14 @@ pub(crate) fn adopt_all<S: Store>(
     requires room { vec_len segments.old + vec_len files ≤ vec_capacity segments.old }
     requires fits { first + vec_len files ≤ 2 ^ 63 }
     requires free { Told (S.view store.old) (IsFree first) }
-    ensures there { OnOk result (EachImage (S.view store.new) (HasFiles first (bytes_of (map (λ m. (S.Maker.sealed_bytes m.sealed, m.footer)) files.items)))) }
+    ensures there { OnOk result (EachImage (S.view store.new)
+        (HasFiles first (bytes_of (map (λ m. (S.Maker.sealed_bytes m.sealed, m.footer)) files.items)))) }
     ensures free { OnOk result (Told (S.view store.new) (IsFree (first + vec_len files))) }
     ensures areas { OnOk result (SameAreas (S.view store.old) (S.view store.new)) }
-    ensures joined { Joined first (map (λ m. (S.Maker.sealed_bytes m.sealed, m.footer)) files.items) (segments_of S.Reader.view segments.old.items) (segments_of S.Reader.view segments.new.items) }
-    ensures all_joined { OnOk result (AllJoined first (map (λ m. (S.Maker.sealed_bytes m.sealed, m.footer)) files.items) (segments_of S.Reader.view segments.old.items) (segments_of S.Reader.view segments.new.items)) }
+    ensures joined { Joined first (map (λ m. (S.Maker.sealed_bytes m.sealed, m.footer)) files.items)
+        (segments_of S.Reader.view segments.old.items) (segments_of S.Reader.view segments.new.items) }
+    ensures all_joined { OnOk result (AllJoined first (map (λ m. (S.Maker.sealed_bytes m.sealed, m.footer)) files.items)
+        (segments_of S.Reader.view segments.old.items) (segments_of S.Reader.view segments.new.items)) }
     ensures spends { Spends (vec_len files) 0 (S.view store.old) (S.view store.new) }
     ensures crash { Leaves Same (S.view store.old) (S.view store.new) }
     ensures cause { HasCause (S.view store.old).faults (S.view store.new).faults result }
@@ -69,13 +72,17 @@ pub(crate) fn commit<S: Store>(
     ensures any_moment { (bodies : List (List ℕ)) → IsSettled log.old.area bodies log.old.end (S.view store.old)
         → Leaves (Commits log.old.area bodies body.now first (bytes_of (map (λ m. (S.Maker.sealed_bytes m.sealed, m.footer)) files.items))) (S.view store.old) (S.view store.new) }
 
-    ensures settled { OnOk result ((bodies : List (List ℕ)) → IsSettled log.old.area bodies log.old.end (S.view store.old)
+    ensures settled { OnOk result ((bodies : List (List ℕ))
+        → IsSettled log.old.area bodies log.old.end (S.view store.old)
         → IsSettled log.new.area (bodies ++ body.now ∷ []) log.new.end (S.view store.new)) }
 
     ensures there { OnOk result ((bodies : List (List ℕ)) → IsSettled log.old.area bodies log.old.end (S.view store.old)
-        → EachImage (S.view store.new) (HasFiles first (bytes_of (map (λ m. (S.Maker.sealed_bytes m.sealed, m.footer)) files.items)))) }
-    ensures joined { Joined first (map (λ m. (S.Maker.sealed_bytes m.sealed, m.footer)) files.items) (segments_of S.Reader.view segments.old.items) (segments_of S.Reader.view segments.new.items) }
-    ensures all_joined { OnOk result (AllJoined first (map (λ m. (S.Maker.sealed_bytes m.sealed, m.footer)) files.items) (segments_of S.Reader.view segments.old.items) (segments_of S.Reader.view segments.new.items)) }
+        → EachImage (S.view store.new)
+        (HasFiles first (bytes_of (map (λ m. (S.Maker.sealed_bytes m.sealed, m.footer)) files.items)))) }
+    ensures joined { Joined first (map (λ m. (S.Maker.sealed_bytes m.sealed, m.footer)) files.items)
+        (segments_of S.Reader.view segments.old.items) (segments_of S.Reader.view segments.new.items) }
+    ensures all_joined { OnOk result (AllJoined first (map (λ m. (S.Maker.sealed_bytes m.sealed, m.footer)) files.items)
+        (segments_of S.Reader.view segments.old.items) (segments_of S.Reader.view segments.new.items)) }
     ensures area { log.new.area ≡ log.old.area }
     ensures log { OnOk result (TellsLog log.new.area log.new.end (S.view store.new)) }
     ensures ready { OnOk result (IsReady log.new.area log.new.end (S.view store.new)) }

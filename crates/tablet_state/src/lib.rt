@@ -8,6 +8,7 @@ mod laws;
 mod making;
 mod parts;
 mod ready;
+mod snapshots;
 mod state;
 mod turns;
 

@@ -76,7 +76,8 @@ pub(crate) fn next_version(
     requires rise { PlacesRise dead.now }
     requires files { AreInFields files.items }
     ensures told { IfOk result (λ next. IsPublished current.now files.items dead.now version edit next.current next.body) }
-    ensures live { IfErr result (λ e. e ≡ fault.NotLive → list_all (can_die (published_rowsets files.items current.now)) dead.now ≡ false) }
+    ensures live { IfErr result (λ e. e ≡ fault.NotLive
+        → list_all (can_die (published_rowsets files.items current.now)) dead.now ≡ false) }
 {
     let published = match publish_change(alloc, current, files.as_slice(), dead) {
         Ok(published) => published,

@@ -1,4 +1,4 @@
-ghost use Rattle.std.specs.Prelude.{◌≡◌, ◌+◌, ◌-◌, ◌^◌, ◌<◌, ◌≤◌, ◌++◌, ◌∷◌, [], ℕ, List, Option, None, Some, true, map, min, vec_len, length, OnOk, OnErr, IfOk, IfErr, IfSome};
+ghost use Rattle.std.specs.Prelude.{◌≡◌, ◌+◌, ◌-◌, ◌^◌, ◌<◌, ◌≤◌, ◌++◌, ◌∷◌, [], ℕ, List, Option, None, Some, true, is_some, map, min, vec_len, length, OnOk, OnErr, IfOk, IfErr, IfSome};
 ghost use Rattle.std.specs.List.{AllByRecursion};
 ghost use Rattle.dev_traits.specs.View.{Calm};
 ghost use Rattle.pk_model.specs.declared.books.Book.{Book};
@@ -28,7 +28,8 @@ impl<S: Store> State<S> {
         ensures refused { result ≡ refusal_of self.now }
 
         // Such a reply is a step of the book that the state has.
-        ensures step { IfSome result (λ r. (b : Book) (seq : ℕ) (load : Load) → Has S.view self.now b → Steps S.view self.now b seq (call.Load load) r) }
+        ensures step { IfSome result (λ r. (b : Book) (seq : ℕ) (load : Load) → Has S.view self.now b
+            → Steps S.view self.now b seq (call.Load load) r) }
     {
         match self.closed {
             Some(place) => return Some(Reply::Closed(place)),
@@ -89,7 +90,8 @@ impl<S: Store> State<S> {
         ensures any_moment { (b : Book) (load : Load) → Has S.view self.old b
             → IsChangeOf self.old.contents.schema (index_of self.old.contents) b load self.old.contents.next_file
             (map (λ m. (S.Maker.sealed_bytes m.sealed, m.footer)) ready.change.files.items) ready.change.dead.items ready.change.index.items
-            → StandsThroughout self.old.contents.schema b seq (call.Load load) (S.view self.old.store) (S.view self.new.store) }
+            → StandsThroughout self.old.contents.schema b seq (call.Load load) (S.view self.old.store)
+            (S.view self.new.store) }
 
         ensures version { IfOk result (λ v. v ≡ current_number self.old.contents + 1) }
         ensures only { IfErr result (λ r. r ≡ reply.StoreFault (faults_of S.view self.new)) }
@@ -100,8 +102,13 @@ impl<S: Store> State<S> {
         ensures next { OnOk result (self.new.contents ≡ next_contents (vec_len ready.change.files) ready.current ready.change.index.items self.old.contents) }
         ensures same { OnErr result (self.new.contents ≡ self.old.contents) }
 
-        // No segment's reader reads.
-        ensures reads { (more : List (ℕ × ℕ)) × (reads_of self.new.segments ≡ reads_of self.old.segments ++ more) }
+        // No segment's reader reads, and those of new files have read nothing.
+        ensures reads { (more : List (ℕ × ℕ)) × (reads_of self.new.segments ≡ reads_of self.old.segments ++ more)
+            × AllByRecursion (λ p. p.1 ≡ 0) more }
+
+        // An honest store stays honest, and one that tells still tells, also where it failed.
+        ensures honest { (S.view self.new.store).is_honest ≡ (S.view self.old.store).is_honest }
+        ensures tells { is_some (S.view self.new.store).seen ≡ is_some (S.view self.old.store).seen }
     {
         let Ready {
             change,

@@ -93,6 +93,7 @@ begun_alone body (Create form schema) is built first =
           };
           built = (record { edit = 0; told = Create form schema; fits = is.fits; spelled = sym is.spelled; built = built }, tt);
           told = ap (λ (n : ℕ). opens 0 (created n schema)) one;
+          read = (built, tt);
           epoch = refl;
           count = refl;
         };
@@ -183,6 +184,10 @@ told_more : (rs : List Record) (r : Record) (s t : Standing) → records_mean rs
 told_more [] r s t h k = cc
 told_more (q ∷ rs) r s t h k = goes_on-append rs r [] (begun q) ∙ ap (λ (o : Option Standing). option_and_then (λ x. step x r) o) h ∙ k
 
+read_push : (rs : List Record) (r : Record) → AllByRecursion (λ (x : Record). IsTrue (is_built x)) rs → IsTrue (is_built r) → AllByRecursion (λ (x : Record). IsTrue (is_built x)) (rs ++ r ∷ [])
+read_push [] r h built = (built, tt)
+read_push (q ∷ rs) r h built = (h.0, read_push rs r h.1 built)
+
 pub one_body_more : (pre : List (List ℕ)) (records : List Record) (edits more : ℕ) (s t : Standing) (body : List ℕ) (told : Record) → IsReplayed pre records edits s → IsBodyOf (s.edit + 1) told body → IsTrue (is_built told)
     → step s told ≡ Some t → more ≡ t.edit + 1 → IsReplayed (pre ++ body ∷ []) (records ++ told ∷ []) more t
 one_body_more pre records edits more s t body told done is built steps count_ =
@@ -191,6 +196,7 @@ one_body_more pre records edits more s t body told done is built steps count_ =
       means = subst (λ (b : List ℕ). Means (pre ++ b ∷ []) t) is.spelled (body_is_a_step pre s t told done.means is.fits steps);
       built = all_push pre body done.built (record { edit = s.edit + 1; told = told; fits = is.fits; spelled = sym is.spelled; built = built });
       told = told_more records told s t done.told steps;
+      read = read_push records told done.read built;
       epoch = counts.epoch ∙ done.epoch;
       count = count_;
     }

@@ -22,6 +22,7 @@ pub record IsReplayed (bodies : List (List ℕ)) (records : List Record) (edits 
   pub means : Means bodies s
   pub built : AllByRecursion IsBuilt bodies
   pub told : records_mean records ≡ Some s
+  pub read : AllByRecursion (λ r. IsTrue (is_built r)) records
   pub epoch : s.epoch ≡ 0
   pub count : edits ≡ s.edit + 1
 

@@ -1,10 +1,11 @@
 ghost use Rattle.std.specs.Prelude.{◌≡◌, ◌+◌, ◌^◌, ◌<◌, ◌≤◌, [], ◌∷◌, ℕ, List, Some, IsTrue, IfSome, IfOk, ◌≢◌, IfErr, IsErrOf, MatchOption};
+ghost use Rattle.std.specs.List.{AllByRecursion};
 ghost use Rattle.dev_traits.specs.Causes.{HasCauseOf};
 ghost use Rattle.dev_traits.specs.Image.{area_of};
 ghost use Rattle.dev_traits.specs.View.{Told, Calm};
 ghost use Rattle.gated_log.specs.Log.{EndsAt, HasNone, IsNoLog, IsSynced};
 ghost use Rattle.journal_form.specs.Meaning.{Standing};
-ghost use Rattle.journal_form.specs.Standings.{records_mean};
+ghost use Rattle.journal_form.specs.Standings.{is_built, records_mean};
 ghost use Rattle.version_journal.specs.declared.fault.JournalFault.TheVariants as fault;
 ghost use Rattle.version_journal.specs.Images.{HasNoRecord};
 ghost use Rattle.dev_traits.specs.declared.faults.Damaged.{Damaged};
@@ -78,6 +79,7 @@ fn expect_no_other<S: Store>(alloc: Global, store: &mut S) -> Result<(), Journal
 fn journal_of(alloc: Global, contents: Contents) -> Result<ReadJournal, JournalFault>
     ensures read { IfOk result (λ found. (s : Standing) × IsReplayed contents.bodies.items found.records.items
         found.journal.edits s) }
+    ensures built { IfOk result (λ found. AllByRecursion (λ r. IsTrue (is_built r)) found.records.items) }
     ensures log { IfOk result (λ found. found.journal.log ≡ contents.log) }
     ensures epoch { IfOk result (λ found. found.journal.epoch ≡ 0) }
     ensures empty { IsErrOf result fault.Empty → contents.bodies.items ≡ [] }
@@ -112,6 +114,8 @@ fn journal_of(alloc: Global, contents: Contents) -> Result<ReadJournal, JournalF
 pub fn read_records<S: Store>(alloc: Global, store: &mut S) -> Result<ReadJournal, JournalFault>
     // The records fit one after the other.
     ensures means { IfOk result (λ found. (s : Standing) × (records_mean found.records.items ≡ Some s)) }
+    // None tells of index files or of a checkpoint.
+    ensures built { IfOk result (λ found. AllByRecursion (λ r. IsTrue (is_built r)) found.records.items) }
     ensures read { IfOk result (λ found. (s : Standing) → records_mean found.records.items ≡ Some s
         → Told (S.view store.old) (λ image. ReadsAs found.journal (Some s) image)) }
     ensures edits { IfOk result (λ found. (s : Standing) → records_mean found.records.items ≡ Some s

@@ -1,6 +1,6 @@
 use Rattle.std.proofs.Common.{refl, Ok, Err}
 use Rattle.snapshot_scan.proofs.ListFacts.{get_other}
-use Rattle.snapshot_scan.proofs.CountingFacts.{part_most, part_once}
+use Rattle.snapshot_scan.proofs.CountingFacts.{part_counted, part_most, part_once}
 use Rattle.snapshot_scan.proofs.StepFacts.{due_at, due_err, live_at, new_cursors, new_left, new_settled, no_piece_damaged, same_due, settled_at, still_cursors, still_pieces}
 use Rattle.snapshot_scan.proofs.feeds.refill.Goals as goal
 
@@ -71,3 +71,6 @@ returns-in-Ok-clause-once g c =
 
 pub returns-in-Err-clause-most : goal.returns-in-Err-clause-most
 returns-in-Err-clause-most g c = part_most c.args.snapshot.now.schema c.args.snapshot.now.parts c.read_on.new.self.parts c.args.i c.in-Some.b (Err c.in-Err.fault) c.in-Err.ensures.read
+
+pub returns-in-Err-clause-counted : goal.returns-in-Err-clause-counted
+returns-in-Err-clause-counted g c = part_counted c.args.snapshot.now.schema c.args.snapshot.now.parts c.read_on.new.self.parts c.args.i c.in-Some.b c.in-Err.fault c.in-Err.ensures.read

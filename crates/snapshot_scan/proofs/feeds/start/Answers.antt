@@ -32,6 +32,7 @@ returns-clause-are g c =
       };
       empty = tt;
       lasts = tt;
+      counted = tt;
     }
 
 pub returns-clause-once : goal.returns-clause-once

@@ -33,3 +33,7 @@ returns-in-Ok-clause-fit g c =
 pub returns-in-Ok-clause-some : goal.returns-in-Ok-clause-some
 returns-in-Ok-clause-some g c live =
     if_ok_so c.only_live.result _ _ (λ found are none. live_given c.args.part.now.0.footer c.args.part.now.1 c.args.b c.in-Ok.rows.items c.requires.part.is live c.in-Ok.ensures.count (sym are ∙ none)) c.only_live.ensures.live
+
+pub returns-in-Ok-clause-whole : goal.returns-in-Ok-clause-whole
+returns-in-Ok-clause-whole g c =
+    if_ok_so c.only_live.result _ _ (λ live are file told mark at. (c.in-Ok.rows.items, c.in-Ok.ensures.rows file told mark at)) c.only_live.ensures.live

@@ -16,3 +16,7 @@ returns-in-Ok-clause-live g c =
 
 pub returns-in-Ok-clause-part : goal.returns-in-Ok-clause-part
 returns-in-Ok-clause-part g c = part_same c.args.schema.now (seen g.R.SealedReader.view c.args.part.now) (seen g.R.SealedReader.view (c.rows_of.new.segment, c.args.part.now.1)) c.requires.part c.rows_of.ensures.kept refl c.rows_of.ensures.known
+
+pub returns-in-Ok-clause-whole : goal.returns-in-Ok-clause-whole
+returns-in-Ok-clause-whole g c =
+    if_ok_so c.only_live.result _ _ (λ live are file told. (c.in-Ok.rows.items, c.in-Ok.ensures.segment file told)) c.only_live.ensures.live

@@ -30,6 +30,7 @@ returns-in-Ok-clause-read g c =
           (rows ∙ piece_long c.args.schema.now (seen view c.args.part.now) piece of_part) c.next_live.ensures.there c.next_live.ensures.before c.next_live.ensures.none);
       damaged = tt;
       intact = tt;
+      whole = c.in-Ok.ensures.whole;
     }
 
 pub returns-in-Err-clause-read : goal.returns-in-Err-clause-read
@@ -42,4 +43,5 @@ returns-in-Err-clause-read g c = record {
   rows = tt;
   damaged = c.in-Err.ensures.damaged;
   intact = c.in-Err.ensures.intact;
+  whole = tt;
 }

@@ -1,8 +1,6 @@
-use Rattle.std.proofs.Common.{◌≡◌, ◌∙◌, sym, refl, subst, get_or, slice_get, Some, Err, take}
+use Rattle.std.proofs.Common.{◌∙◌, get_or, take}
 use Rattle.std.proofs.lemmas.Option.{slice_get-get_or}
-use Rattle.dev_traits.specs.Causes.{Counts, HasReadCause}
 use Rattle.dev_traits.proofs.Moments.{calm_then}
-use Rattle.store_files.specs.Named.{faults_in}
 use Rattle.store_files.specs.declared.attaching.NamedFile.{NamedFile}
 use Rattle.store_files.proofs.FileFacts.{attached_more, attached_still, cause_between, damage_still, none_failed, none_still, take_got, well_ok}
 use Rattle.store_files.proofs.attaching.attach_all.Goals as goal

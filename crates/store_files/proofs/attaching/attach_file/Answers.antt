@@ -1,4 +1,4 @@
-use Rattle.store_files.proofs.FileFacts.{absent_damage, absent_is_none, attached_still, damage_told, if_err_so, if_ok_so, none_told}
+use Rattle.store_files.proofs.FileFacts.{attached_still, damage_told, if_err_so, if_ok_so, none_told}
 use Rattle.store_files.proofs.attaching.attach_file.Goals as goal
 
 pub returns-in-Ok-clause-attached : goal.returns-in-Ok-clause-attached

@@ -1,4 +1,4 @@
-use Rattle.std.proofs.Common.{◌≡◌, List, ap, subst, arith, []}
+use Rattle.std.proofs.Common.{◌≡◌, subst, arith, []}
 use Rattle.std.proofs.lemmas.Grind.{common_steps}
 use Rattle.std.specs.Vec.Iter.{into_iter_items}
 use Rattle.dev_traits.specs.Causes.{Counts}

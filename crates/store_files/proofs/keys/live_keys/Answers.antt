@@ -1,10 +1,10 @@
-use Rattle.std.proofs.Common.{◌≡◌, ◌∙◌, ℕ, ap, refl, sym, subst, arith, length}
+use Rattle.std.proofs.Common.{◌∙◌, refl, sym, subst, arith}
 use Rattle.std.proofs.lemmas.Result.{err_from_is_err_and}
 use Rattle.column_page.specs.declared.footers.Footer.{Footer}
 use Rattle.segment_read.specs.Footers.{HasFooter}
 use Rattle.segment_read.proofs.Scanning.{known_still}
 use Rattle.store_files.proofs.FileFacts.{well_ok}
-use Rattle.store_files.proofs.KeyFacts.{codes_all, codes_step, keys_damage, keys_intact}
+use Rattle.store_files.proofs.KeyFacts.{codes_all, codes_step, keys_damage, keys_intact, whole_all, whole_step}
 use Rattle.store_files.proofs.keys.live_keys.Goals as goal
 
 pub add_block-requires-clause-footer : goal.add_block-requires-clause-footer
@@ -18,6 +18,7 @@ loop-b-init g c = record {
   same = record { bytes = refl; size = refl };
   reads = omega arith;
   unfailed = refl;
+  whole = λ file told i lt live. absurd (omega arith);
   read = λ file told rows is. c.new-keys.ensures.items;
 }
 
@@ -33,6 +34,8 @@ loop-b-preserved g c =
       same = record { bytes = made.same.bytes ∙ inv.same.bytes; size = made.same.size ∙ inv.same.size };
       reads = omega arith;
       unfailed = well_ok _ _ _ made.cause ∙ inv.unfailed;
+      whole = whole_step c.args.schema.now c.args.segment.now.footer c.loop-b.segment.footer (g.R.SealedReader.view c.args.segment.now.reader)
+          (g.R.SealedReader.view c.loop-b.segment.reader) c.args.dead.now c.loop-b.b inv.kept inv.same.bytes inv.whole made.whole;
       read = codes_step c.args.schema.now c.args.segment.now.footer c.loop-b.segment.footer c.args.segment.now.number c.loop-b.segment.number
           (g.R.SealedReader.view c.args.segment.now.reader) (g.R.SealedReader.view c.loop-b.segment.reader) c.args.dead.now c.loop-b.b c.loop-b.keys.items c.add_block.new.keys.items
           inv.kept inv.number inv.same.bytes (omega arith) inv.read made.added;
@@ -56,6 +59,11 @@ pub returns-clause-keys : goal.returns-clause-keys
 returns-clause-keys g c = λ file told rows is.
     let count = c.blocks-b-end.ensures.count in
     codes_all c.args.schema.now c.args.segment.now.footer file c.args.segment.now.number c.args.dead.now c.loop-b.b rows c.loop-b.keys.items is (omega arith) (c.loop-b.invariant.read file told rows is)
+
+pub returns-clause-whole : goal.returns-clause-whole
+returns-clause-whole g c = λ file told.
+    let count = c.blocks-b-end.ensures.count in
+    whole_all c.args.schema.now c.args.segment.now.footer file c.args.dead.now c.loop-b.b (omega arith) (c.loop-b.invariant.whole file told)
 
 pub returns-clause-known : goal.returns-clause-known
 returns-clause-known g c = known_still c.args.schema.now (g.R.SealedReader.view c.args.segment.now.reader) (g.R.SealedReader.view c.loop-b.segment.reader) c.args.segment.now.footer c.loop-b.segment.footer

@@ -1,10 +1,11 @@
-use Rattle.std.proofs.Common.{◌≡◌, ◌∙◌, ◌≤◌, ℕ, arith, slice_get, IfSome, List, None, Ok, Err, true, false, sym, subst}
+use Rattle.std.proofs.Common.{◌≡◌, ◌∙◌, ◌≤◌, ℕ, arith, slice_get, IfSome, IsTrue, List, None, Ok, Err, true, false, sym, subst}
+use Rattle.pk_values.specs.Schemas.{fits_row}
 use Rattle.pk_values.specs.declared.cells.Value.{Value}
 use Rattle.pk_model.specs.Tables.{Rows}
 use Rattle.snapshot_scan.specs.Snapshots.{IsSnapshotOf}
 use Rattle.row_merge.specs.Cursors.{AllFit}
 use Rattle.snapshot_scan.specs.Scans.{AreToCome, Gives, HasLive, IsDue, IsPlayed, NoneDue, reads_in_all, ReadsDue, ScanView}
-use Rattle.snapshot_scan.proofs.CountingFacts.{taken_once}
+use Rattle.snapshot_scan.proofs.CountingFacts.{none_counted, taken_once}
 use Rattle.snapshot_scan.proofs.LeftFacts.{all_fit}
 use Rattle.snapshot_scan.proofs.NextFacts.{due_last, next_gives, still_stands}
 use Rattle.snapshot_scan.proofs.StepFacts.{live_at, none_due, still_played, taken_cursors, taken_settled}
@@ -29,6 +30,7 @@ invariant_of-self-in-Ok g c = record {
   played = subst (λ s. IsPlayed s c.take_first-row.new.cursors.items c.take_first-row.result.1 c.take_first-row.new.bracket) c.schema-schema.ensures c.take_first-row.ensures.played;
   empty = tt;
   lasts = c.self.invariant.lasts;
+  counted = none_counted c.self.inside.fault c.refill.new.snapshot.parts c.in_default.not-Some;
 }
 
 pub returns-in-Ok-clause-gives : goal.returns-in-Ok-clause-gives
@@ -91,3 +93,8 @@ pub returns-in-Err-clause-stands : goal.returns-in-Err-clause-stands
 returns-in-Err-clause-stands g c =
     subst (λ (v : ScanView). (m : Rows) → IsSnapshotOf v.snapshot m → IsSnapshotOf c.refill.new.snapshot m) c.self.view_is
     (λ m. still_stands c.self.inside.snapshot c.refill.new.snapshot m (λ pieces told. (c.in-Err.ensures.left pieces told).0) c.in-Err.ensures.schema)
+
+pub returns-in-Ok-clause-fits : goal.returns-in-Ok-clause-fits
+returns-in-Ok-clause-fits g c =
+    subst (λ (v : ScanView). IfSome c.take_first-row.result.0 (λ cells. IsTrue (fits_row v.snapshot.schema cells))) c.self.view_is
+    (subst (λ s. IfSome c.take_first-row.result.0 (λ cells. IsTrue (fits_row s cells))) (c.schema-schema.ensures ∙ c.in-Ok.ensures.schema) c.take_first-row.ensures.fits)

@@ -4,7 +4,7 @@ use Rattle.segment_read.specs.Blocks.{BlockShown}
 use Rattle.segment_read.specs.Reads.{block_in, IsDamage, OfBlock, OfFile, OnDamage, Reading}
 use Rattle.segment_read.proofs.Scanning.{if_ok_so}
 use Rattle.rowsets.specs.Scans.{Piece}
-use Rattle.snapshot_scan.specs.Parts.{IsPieceOf, live_in, seen}
+use Rattle.snapshot_scan.specs.Parts.{IsPieceOf, IsWhole, live_in, seen}
 use Rattle.snapshot_scan.specs.Snapshots.{ReadsPart, SnapshotView}
 use Rattle.snapshot_scan.proofs.SnapFacts.{from_at, if_at, if_err_so, part_at, part_is, parts_are, reads_part}
 use Rattle.snapshot_scan.proofs.snapshots.Snapshot.block_rows.Goals as goal
@@ -30,6 +30,12 @@ returns-clause-live g c =
     subst (λ (v : SnapshotView). IfOk c.live_block.result (λ live. IfSome (slice_get v.parts c.args.i) (λ part. (piece : Piece) → IsPieceOf v.schema part piece → live.items ≡ live_in c.args.b piece))) c.self.view_is
     (if_ok_so c.live_block.result _ _ (λ live are. if_at (slice_get (map (seen g.R.SealedReader.view) c.self.inside.parts.items) c.args.i) (seen g.R.SealedReader.view c.index_mut.result.now) (λ part. (piece : Piece) → IsPieceOf c.self.inside.schema part piece → live.items ≡ live_in c.args.b piece) (part_at g.R.SealedReader.view c.self.inside.parts.items c.args.i c.index_mut.result.now
     (subst (λ (v : SnapshotView). c.args.i < length v.parts) (sym c.self.view_is) c.requires.there) c.index_mut.ensures.value) are) c.live_block.ensures.live)
+
+pub returns-clause-whole : goal.returns-clause-whole
+returns-clause-whole g c =
+    subst (λ (v : SnapshotView). IfOk c.live_block.result (λ _. IfSome (slice_get v.parts c.args.i) (λ part. IsWhole v.schema part c.args.b))) c.self.view_is
+    (if_ok_so c.live_block.result _ _ (λ live are. if_at (slice_get (map (seen g.R.SealedReader.view) c.self.inside.parts.items) c.args.i) (seen g.R.SealedReader.view c.index_mut.result.now) (λ part. IsWhole c.self.inside.schema part c.args.b) (part_at g.R.SealedReader.view c.self.inside.parts.items c.args.i c.index_mut.result.now
+    (subst (λ (v : SnapshotView). c.args.i < length v.parts) (sym c.self.view_is) c.requires.there) c.index_mut.ensures.value) are) c.live_block.ensures.whole)
 
 pub returns-clause-damaged : goal.returns-clause-damaged
 returns-clause-damaged g c =

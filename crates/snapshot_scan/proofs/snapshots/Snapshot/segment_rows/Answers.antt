@@ -3,7 +3,7 @@ use Rattle.segment_read.specs.Reads.{OnDamage, Reading}
 use Rattle.segment_read.specs.Rows.{IsRowsDamage}
 use Rattle.segment_read.proofs.Scanning.{if_ok_so}
 use Rattle.rowsets.specs.Scans.{Piece, live_rows}
-use Rattle.snapshot_scan.specs.Parts.{IsPieceOf, seen}
+use Rattle.snapshot_scan.specs.Parts.{IsAllWhole, IsPieceOf, seen}
 use Rattle.snapshot_scan.specs.Snapshots.{ReadsPart, SnapshotView}
 use Rattle.snapshot_scan.proofs.SnapFacts.{if_at, if_err_so, part_at, part_is, parts_are, reads_part}
 use Rattle.snapshot_scan.proofs.snapshots.Snapshot.segment_rows.Goals as goal
@@ -25,6 +25,12 @@ returns-clause-live g c =
     subst (λ (v : SnapshotView). IfOk c.live_part.result (λ live. IfSome (slice_get v.parts c.args.i) (λ part. (piece : Piece) → IsPieceOf v.schema part piece → live.items ≡ live_rows piece))) c.self.view_is
     (if_ok_so c.live_part.result _ _ (λ live are. if_at (slice_get (map (seen g.R.SealedReader.view) c.self.inside.parts.items) c.args.i) (seen g.R.SealedReader.view c.index_mut.result.now) (λ part. (piece : Piece) → IsPieceOf c.self.inside.schema part piece → live.items ≡ live_rows piece) (part_at g.R.SealedReader.view c.self.inside.parts.items c.args.i c.index_mut.result.now
     (subst (λ (v : SnapshotView). c.args.i < length v.parts) (sym c.self.view_is) c.requires) c.index_mut.ensures.value) are) c.live_part.ensures.live)
+
+pub returns-clause-whole : goal.returns-clause-whole
+returns-clause-whole g c =
+    subst (λ (v : SnapshotView). IfOk c.live_part.result (λ _. IfSome (slice_get v.parts c.args.i) (λ part. IsAllWhole v.schema part))) c.self.view_is
+    (if_ok_so c.live_part.result _ _ (λ live are. if_at (slice_get (map (seen g.R.SealedReader.view) c.self.inside.parts.items) c.args.i) (seen g.R.SealedReader.view c.index_mut.result.now) (λ part. IsAllWhole c.self.inside.schema part) (part_at g.R.SealedReader.view c.self.inside.parts.items c.args.i c.index_mut.result.now
+    (subst (λ (v : SnapshotView). c.args.i < length v.parts) (sym c.self.view_is) c.requires) c.index_mut.ensures.value) are) c.live_part.ensures.whole)
 
 pub returns-clause-damaged : goal.returns-clause-damaged
 returns-clause-damaged g c =

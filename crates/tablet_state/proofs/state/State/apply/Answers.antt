@@ -1,4 +1,5 @@
 use Rattle.std.proofs.Common.{◌≡◌, ◌+◌, ◌++◌, ◌∷◌, [], ◌∙◌, ℕ, List, None, map, length, vec_len, min, ◌^◌, ◌-◌, refl, sym, ap, subst, arith}
+use Rattle.std.specs.List.{AllByRecursion}
 use Rattle.std.proofs.lemmas.List.{length-map}
 use Rattle.dev_traits.specs.View.{View, Told}
 use Rattle.pk_model.specs.declared.calls.Reply.TheVariants as reply
@@ -136,7 +137,8 @@ returns-in-Ok-clause-reads g c =
     let below : Below at.next_file segs = (c.self.invariant.opened open_).numbered in
     let w : View = view c.commit-committed.new.store in
     let segs' : List SegmentView = segments_of read c.commit-committed.new.segments.items in
-    subst (λ (x : Shown g.row.S.Denot). (more : List (ℕ × ℕ)) × (reads_of segs' ≡ reads_of x.segments ++ more)) c.self.view_is (reads_on segs c.in-Ok.ensures.all_joined.more segs' c.in-Ok.ensures.all_joined.joined)
+    subst (λ (x : Shown g.row.S.Denot). (more : List (ℕ × ℕ)) × (reads_of segs' ≡ reads_of x.segments ++ more) × AllByRecursion (λ (p : ℕ × ℕ). p.1 ≡ 0) more) c.self.view_is
+    (reads_on at.next_file made segs c.in-Ok.ensures.all_joined.more segs' c.in-Ok.ensures.all_joined.joined c.in-Ok.ensures.all_joined.adopted)
 
 pub invariant_of-self-in-Err : goal.invariant_of-self-in-Err
 invariant_of-self-in-Err g c =
@@ -241,4 +243,5 @@ returns-clause-reads g c =
     let below : Below at.next_file segs = (c.self.invariant.opened open_).numbered in
     let w : View = view c.commit-committed.new.store in
     let segs' : List SegmentView = segments_of read c.commit-committed.new.segments.items in
-    subst (λ (x : Shown g.row.S.Denot). (more : List (ℕ × ℕ)) × (reads_of segs' ≡ reads_of x.segments ++ more)) c.self.view_is (reads_on segs c.commit-committed.ensures.joined.more segs' c.commit-committed.ensures.joined.joined)
+    subst (λ (x : Shown g.row.S.Denot). (more : List (ℕ × ℕ)) × (reads_of segs' ≡ reads_of x.segments ++ more) × AllByRecursion (λ (p : ℕ × ℕ). p.1 ≡ 0) more) c.self.view_is
+    (reads_on at.next_file c.commit-committed.ensures.joined.done segs c.commit-committed.ensures.joined.more segs' c.commit-committed.ensures.joined.joined c.commit-committed.ensures.joined.adopted)

@@ -1,0 +1,12 @@
+pub mod AreaFacts
+pub mod ReplayFacts
+pub mod NamingFacts
+pub mod IndexingFacts
+pub mod FindingFacts
+pub mod CreateFacts
+pub mod SchemaFacts
+pub mod ReadingFacts
+pub mod AttachFacts
+pub mod OpenFacts
+pub mod OpenedFacts
+pub mod TabletFacts

@@ -1,0 +1,180 @@
+ghost use Rattle.std.specs.Prelude.{◌≡◌, ◌⊎◌, ◌+◌, ◌<◌, ◌≤◌, ℕ, [], None, Some, IsTrue, IfOk, IfErr, OnOk, length};
+ghost use Rattle.dev_traits.specs.Causes.{HasCause, HasCauseOf, RoseBy};
+ghost use Rattle.dev_traits.specs.Image.{file};
+ghost use Rattle.dev_traits.specs.View.{EachImage, Leaves, LeavesOnly, Spends, Told};
+ghost use Rattle.journal_form.specs.Meaning.{Standing};
+ghost use Rattle.pk_model.specs.Books.{new_book};
+ghost use Rattle.version_journal.specs.Commits.{IsDue};
+ghost use Rattle.version_journal.specs.Images.{HasNoRecord, IsSaid};
+ghost use Rattle.version_journal.specs.Journals.{ReadsAs};
+ghost use Rattle.tablet_state.specs.State.{Has, faults_of};
+ghost use Rattle.tablet_state.specs.Stands.{Stands};
+ghost use Rattle.core_recover.specs.Creating.{Clears, HasBegun, IsBlank, IsClean, IsStart, first_standing};
+ghost use Rattle.core_recover.specs.Opening.{IsWant, store_left};
+ghost use Rattle.core_recover.specs.declared.faults.OpenFault.TheVariants as fault;
+
+use crate::OpenFault;
+use dev_traits::{Failed, FileMaker, Memory, Store};
+use gated_log::Log;
+use journal_form::Record;
+use kept_versions::{KeptVersion, KeyIndex};
+use pk_values::{Schema, schema_columns};
+use std::alloc::Global;
+use tablet_state::{State, StateParts};
+use version_journal::{Draft, Journal, commit, draft};
+
+// Blanks areas 0 and 1, and forgets every file.
+fn clear<S: Store>(store: &mut S) -> Result<(), Failed>
+    requires calls { 3 ≤ (S.view store.old).spare_calls }
+    ensures clean { OnOk result (Told (S.view store.new) IsClean) }
+    ensures blank { OnOk result (EachImage (S.view store.new) IsBlank) }
+    ensures moments { Leaves Clears (S.view store.old) (S.view store.new) }
+    ensures spends { Spends 3 0 (S.view store.old) (S.view store.new) }
+    ensures cause { HasCause (S.view store.old).faults (S.view store.new).faults result }
+{
+    store.forget_others(&[])?;
+    store.blank(0)?;
+    store.blank(1)
+}
+
+// Clears a store, and writes its first record.
+fn write_first<S: Store>(store: &mut S, journal: &mut Journal, first: &Draft) -> Result<(), OpenFault>
+    requires calls { 7 ≤ (S.view store.old).spare_calls }
+    requires bytes { length first.now.body + 10 ≤ (S.view store.old).spare_bytes }
+    requires start { IsStart journal.old }
+    requires due { first.now.edit ≡ 0 }
+    ensures begun { OnOk result ((t : Standing) → IsDue first.now.body None t → IsTrue (S.view store.old).is_honest → HasBegun journal.new t (S.view store.new)) }
+    ensures reads { OnOk result ((t : Standing) → IsDue first.now.body None t → Told (S.view store.new) (ReadsAs journal.new (Some t))) }
+    ensures none { OnOk result (Told (S.view store.new) (λ image. (number : ℕ) → file image number ≡ None)) }
+    ensures any_moment { (t : Standing) → IsDue first.now.body None t → IsTrue (S.view store.old).is_honest → EachImage (S.view store.old) HasNoRecord
+        → LeavesOnly (λ left. HasNoRecord left ⊎ IsSaid left t) (S.view store.old) (S.view store.new) }
+    ensures area { journal.new.log.area ≡ 0 }
+    ensures spends { Spends 7 (length first.now.body + 10) (S.view store.old) (S.view store.new) }
+    ensures only { IfErr result (λ e. e ≡ fault.StoreFault) }
+    ensures cause { HasCause (S.view store.old).faults (S.view store.new).faults result }
+{
+    clear(store)?;
+    match commit(store, journal, first) {
+        Ok(()) => Ok(()),
+        Err(_) => Err(OpenFault::StoreFault),
+    }
+}
+
+// The body of a first record, and the columns that it tells.
+#[derive(Drop)]
+struct First {
+    journal: Journal,
+    draft: Draft,
+    schema: Schema,
+}
+
+// The first record of a new store.
+fn first_of(alloc: Global, schema: Schema) -> Result<First, Memory>
+    ensures schema { IfOk result (λ first. first.schema ≡ schema) }
+    ensures start { IfOk result (λ first. IsStart first.journal) }
+    ensures due { IfOk result (λ first. IsDue first.draft.body None (first_standing schema)) }
+    ensures edit { IfOk result (λ first. first.draft.edit ≡ 0) }
+{
+    schema_columns();
+    let _keys = schema.keys();
+    let journal = Journal::new(Log { area: 0, end: 0 });
+    let told = Record::Create { form: 1, schema };
+    let draft = draft(alloc, &journal, &told)?;
+    match told {
+        Record::Create { form: _, schema } => Ok(First {
+            journal,
+            draft,
+            schema,
+        }),
+        _ => unreachable!(),
+    }
+}
+
+// What a new state is made of, beside its store.
+#[derive(Drop)]
+struct Begun<S: Store> {
+    maker: S::Maker,
+    journal: Journal,
+    schema: Schema,
+}
+
+// Makes a store that has no record a tablet's.
+fn begin<S: Store>(alloc: Global, store: &mut S, schema: Schema) -> Result<Begun<S>, OpenFault>
+    ensures begun { IfOk result (λ begun. IsTrue (S.view store.old).is_honest → HasBegun begun.journal (first_standing schema) (S.view store.new)) }
+    ensures reads { IfOk result (λ begun. Told (S.view store.new) (ReadsAs begun.journal (Some (first_standing schema)))) }
+    ensures none { OnOk result (Told (S.view store.new) (λ image. (number : ℕ) → file image number ≡ None)) }
+    ensures schema { IfOk result (λ begun. begun.schema ≡ schema) }
+    ensures maker { IfOk result (λ begun. (S.Maker.view begun.maker).faults ≡ 0) }
+    ensures any_moment { IsTrue (S.view store.old).is_honest → EachImage (S.view store.old) HasNoRecord
+        → LeavesOnly (λ left. HasNoRecord left ⊎ IsSaid left (first_standing schema)) (S.view store.old) (S.view store.new) }
+    ensures honest { (S.view store.new).is_honest ≡ (S.view store.old).is_honest }
+    ensures only { IfErr result IsWant }
+    ensures cause { HasCauseOf fault.StoreFault (S.view store.old).faults (S.view store.new).faults result }
+{
+    let First {
+        mut journal,
+        draft,
+        schema,
+    } = first_of(alloc, schema)?;
+    store.room(7, draft.room())?;
+    let maker = store.maker()?;
+    match write_first(store, &mut journal, &draft) {
+        Ok(()) => Ok(Begun {
+            maker,
+            journal,
+            schema,
+        }),
+        Err(fault) => {
+            store.give_back(maker);
+            Err(fault)
+        }
+    }
+}
+
+/// Makes a store without a record the tablet of a table: version 0, without a row. It forgets every file.
+///
+/// # Errors
+/// `StoreFault`, which the store counted, and `Memory`, with the store. A crash may then leave the new tablet, or a
+/// store without a record.
+pub fn create<S: Store>(alloc: Global, store: S, schema: Schema) -> Result<State<S>, (S, OpenFault)>
+    requires { IsTrue (S.view store).is_honest → EachImage (S.view store) HasNoRecord }
+    ensures book { IsTrue (S.view store).is_honest → IfOk result (λ state. Has S.view state new_book) }
+    ensures schema { IfOk result (λ state. state.contents.schema ≡ schema) }
+    ensures open { IfOk result (λ state. state.closed ≡ None) }
+
+    // At every moment an image has no record, or stands for the new tablet.
+    ensures any_moment { IsTrue (S.view store).is_honest
+        → LeavesOnly (λ left. HasNoRecord left ⊎ Stands schema new_book left) (S.view store) (S.view (store_left result)) }
+    ensures only { IfErr result (λ e. IsWant e.1) }
+    ensures cause { IfErr result (λ e. e.1 ≡ OpenFault.StoreFault → RoseBy 1 (S.view store).faults (S.view e.0).faults) }
+    ensures counts_ok { IfOk result (λ state. RoseBy 0 (S.view store).faults (faults_of S.view state)) }
+    ensures counts_err { IfErr result (λ e. RoseBy 0 (S.view store).faults (S.view e.0).faults) }
+    ensures honest { (S.view (store_left result)).is_honest ≡ (S.view store).is_honest }
+{
+    let mut store = store;
+    match begin(alloc, &mut store, schema) {
+        Ok(begun) => {
+            let Begun {
+                maker,
+                journal,
+                schema,
+            } = begun;
+            Ok(State::of(StateParts {
+                store,
+                maker,
+                log: journal.log,
+                schema,
+                form: 1,
+                epoch: 0,
+                edit: 0,
+                next_file: 1,
+                floor: 0,
+                older: Vec::new(alloc),
+                current: KeptVersion::empty(alloc),
+                segments: Vec::new(alloc),
+                index: KeyIndex::new(alloc),
+            }))
+        }
+        Err(fault) => Err((store, fault)),
+    }
+}
