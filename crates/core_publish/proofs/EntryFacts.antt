@@ -90,7 +90,7 @@ place-below (e ∷ es) k h = by (place-below es k h.1) (eq_by_cmp key_cmp k e.ke
     by rest true = h.0
     by rest false = rest
 
-length-files : (n : ℕ) (rows : List (List Value)) → length (files_from n rows) ≡ n
+pub length-files : (n : ℕ) (rows : List (List Value)) → length (files_from n rows) ≡ n
 length-files zero rows = refl
 length-files (suc n) rows = ap suc (length-files n (drop 65536 rows))
 

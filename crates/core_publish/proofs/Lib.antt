@@ -7,3 +7,8 @@ pub mod PublicationFacts
 pub mod SettleFacts
 pub mod EntryFacts
 pub mod OpeningFacts
+pub mod LoopFacts
+pub mod OldPlaces
+pub mod KeyFacts
+pub mod ChangeFacts
+pub mod TurnFacts

@@ -6,3 +6,4 @@ pub mod Publication
 pub mod Writing
 pub mod Replies
 pub mod Opening
+pub mod Publishing

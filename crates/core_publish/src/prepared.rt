@@ -1,4 +1,4 @@
-ghost use Rattle.std.specs.Prelude.{◌≡◌, ◌≤◌, All, IfOk, IsTrue, is_some, false, length};
+ghost use Rattle.std.specs.Prelude.{◌≡◌, ◌≤◌, ◌<◌, ◌^◌, All, IfOk, IsTrue, is_some, false, length, map};
 ghost use Rattle.dev_traits.specs.Causes.{HasMakeCause};
 ghost use Rattle.pk_values.specs.Schemas.{fits_row};
 ghost use Rattle.segment_form.specs.Segments.{KeysRise};
@@ -6,8 +6,12 @@ ghost use Rattle.pk_model.specs.Lawful.{IsLawful};
 ghost use Rattle.rowsets.specs.Loads.{IsWhole};
 ghost use Rattle.std.specs.FinMap.{empty, values};
 ghost use Rattle.pk_model.specs.Tables.{after};
+ghost use Rattle.std.specs.List.{AllByRecursion};
 ghost use Rattle.core_publish.specs.Prepared.{AreMovesOf, EachTells, IsPrepared};
+ghost use Rattle.core_publish.specs.Publication.{entry_from};
+ghost use Rattle.core_publish.specs.Publishing.{IsFrom, emptied, entry_back};
 
+use crate::entries::{number_back, number_from};
 use crate::files::write_files;
 use crate::lines::{coded, sorted};
 use crate::results::{Results, results_of};
@@ -18,7 +22,9 @@ use pk_values::Schema;
 use segment_write::Made;
 use std::alloc::{AllocError, Global};
 use std::marker::Model;
+use std::mem;
 use std::snapshot::Snapshot;
+use tablet_state::Change;
 
 /// A load of all columns that is ready to be published: its rows stand in sealed files, and of each key that it
 /// touches the code is at hand, and where its new row stands. Contracts also see the load itself, which takes no
@@ -56,6 +62,63 @@ impl<M: FileMaker> Prepared<M> {
         ensures { result ≡ self.now.spent }
     {
         self.spent
+    }
+
+    // The codes of the keys that it touches, each with the place of its row, or none.
+    pub(crate) fn entries(&self) -> &[(KeyBytes, Option<Place>)]
+        ensures entries { result.now ≡ self.now.entries }
+        ensures prepared { self.now.spent ≡ false
+            → IsPrepared self.now.schema self.now.load self.now.files self.now.entries }
+    {
+        &self.entries
+    }
+
+    // Lets its files and entries go.
+    pub(crate) fn use_up(&mut self, alloc: Global)
+        ensures { self.new ≡ emptied self.old }
+    {
+        self.files = Vec::new(alloc);
+        self.entries = Vec::new(alloc);
+        self.spent = true;
+    }
+
+    // Takes its files and entries out, as a change whose files are numbered from `first` on.
+    pub(crate) fn take_change(&mut self, alloc: Global, first: u64, dead: Vec<Place>) -> Change<M>
+        requires unspent { self.old.spent ≡ false }
+        requires fits { first < 2 ^ 62 }
+        ensures files { map (λ m. (M.sealed_bytes m.sealed, m.footer)) result.files.items ≡ self.old.files }
+        ensures dead { result.dead ≡ dead }
+        ensures entries { result.index.items ≡ map (entry_from first) self.old.entries }
+        ensures left { self.new ≡ emptied self.old }
+    {
+        let files = mem::replace(&mut self.files, Vec::new(alloc));
+        let mut index = mem::replace(&mut self.entries, Vec::new(alloc));
+        number_from(&mut index, first);
+        self.spent = true;
+        Change { files, dead, index }
+    }
+
+    // Puts the files and entries of such a change back.
+    pub(crate) fn put_back(&mut self, first: u64, change: Change<M>)
+        requires from { AllByRecursion (λ e. IsFrom first e.1) change.index.items }
+        requires prepared { IsPrepared self.old.schema self.old.load
+            (map (λ m. (M.sealed_bytes m.sealed, m.footer)) change.files.items)
+            (map (entry_back first) change.index.items) }
+        ensures { self.new ≡ record self.old {
+          files = map (λ m. (M.sealed_bytes m.sealed, m.footer)) change.files.items;
+          entries = map (entry_back first) change.index.items;
+          spent = false;
+        } }
+    {
+        let Change {
+            files,
+            dead: _,
+            mut index,
+        } = change;
+        number_back(&mut index, first);
+        self.files = files;
+        self.entries = index;
+        self.spent = false;
     }
 }
 
