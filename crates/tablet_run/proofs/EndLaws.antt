@@ -20,7 +20,7 @@ use Rattle.reports.specs.Bearing.{AreBorneOut}
 use Rattle.reports.specs.Endings.{ending_of, ending_status, gives, status_of}
 use Rattle.reports.proofs.BearingLaws.{faults-are-counted, intact-ends-well}
 use Rattle.reports.proofs.EndingLaws.{ending-has-status}
-use Rattle.core_recover.specs.Opening.{HasNoRecord}
+use Rattle.version_journal.specs.Images.{HasNoRecord}
 use Rattle.tablet_state.specs.Stands.{Stands}
 use Rattle.tablet_run.specs.Asks.{HasFiled}
 use Rattle.tablet_run.specs.Puts.{ToldAs}

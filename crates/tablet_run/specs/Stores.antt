@@ -16,7 +16,7 @@ use Rattle.reports.specs.Bearing.{AreBorneOut, TellsIntact}
 use Rattle.reports.specs.Progress.{IsRun}
 use Rattle.reports.specs.Reports.{GoesBy, HasRun, item_of}
 use Rattle.reports.specs.Shutting.{ShutsBy}
-use Rattle.core_recover.specs.Opening.{HasNoRecord}
+use Rattle.version_journal.specs.Images.{HasNoRecord}
 use Rattle.tablet_state.specs.Stands.{Stands}
 use Rattle.tablet_state.specs.State.{Has, Shown, faults_of}
 use Rattle.tablet_run.specs.Doing.{ShutStands}

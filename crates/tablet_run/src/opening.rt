@@ -1,6 +1,6 @@
 ghost use Rattle.std.specs.Prelude.{IfOk, IfErr, IsTrue};
 ghost use Rattle.dev_traits.specs.View.{EachImage};
-ghost use Rattle.core_recover.specs.Opening.{HasNoRecord};
+ghost use Rattle.version_journal.specs.Images.{HasNoRecord};
 ghost use Rattle.tablet_run.specs.Stores.{HasOpened, IsCreated, IsFound, IsUncreated, Refuses};
 
 use crate::causes::{Cause, StoredTable};

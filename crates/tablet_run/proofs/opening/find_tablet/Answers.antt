@@ -3,7 +3,8 @@ use Rattle.std.proofs.lemmas.Result.{IfErr-weaker, IfOk-weaker}
 use Rattle.dev_traits.specs.View.{Told}
 use Rattle.pk_values.specs.Schemas.{Layout}
 use Rattle.pk_model.specs.declared.books.Book.{Book}
-use Rattle.core_recover.specs.Opening.{HasNoRecord, IsWant}
+use Rattle.version_journal.specs.Images.{HasNoRecord}
+use Rattle.core_recover.specs.Opening.{IsWant}
 use Rattle.core_recover.specs.declared.faults.OpenFault.{OpenFault}
 use Rattle.core_recover.specs.declared.faults.OpenFault.TheVariants as open_fault
 use Rattle.tablet_state.specs.Stands.{Stands}
