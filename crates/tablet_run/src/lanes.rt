@@ -1,4 +1,5 @@
-ghost use Rattle.std.specs.Prelude.{◌≡◌, ◌≤◌, ◌<◌, ◌+◌, ◌^◌, ◌++◌, ◌∷◌, [], ℕ, List, length, Ok, IfOk, IfErr, OnErr, None, true, if◌then◌else◌, vec_len, vec_capacity};
+ghost use Rattle.std.specs.Prelude.{◌≡◌, ◌≤◌, ◌<◌, ◌+◌, ◌^◌, ◌++◌, ◌∷◌, [], ℕ, List};
+ghost use Rattle.std.specs.Prelude.{length, Ok, IfOk, IfErr, OnErr, None, true, if◌then◌else◌, vec_len, vec_capacity};
 ghost use Rattle.std.specs.FinMap.{len, values};
 ghost use Rattle.std.specs.List.{AllByRecursion};
 ghost use Rattle.dev_traits.specs.Causes.{RoseBy};
@@ -45,7 +46,8 @@ fn publish_load<S: Store>(
 ) -> Done
     requires lawful { IsLawful state.old.contents.schema load }
     requires whole { load.given ≡ others state.old.contents.schema }
-    ensures { (j : FiledJob) (name : List ℕ) → j.job.act ≡ JobAct.Load name → load_in state.old.contents.schema j ≡ Ok load
+    ensures { (j : FiledJob) (name : List ℕ) → j.job.act ≡ JobAct.Load name
+        → load_in state.old.contents.schema j ≡ Ok load
         → Does S.view j place state.old state.new (faults_beside S.view state.old (S.Maker.view maker.old).faults)
         (faults_beside S.view state.new (S.Maker.view maker.new).faults) result }
 {
@@ -135,7 +137,8 @@ fn rows_told<S: Store>(
 // Scans a version.
 fn scan_version<S: Store>(alloc: Global, state: &mut State<S>, want: Want, place: u64) -> Done
     ensures { (j : FiledJob) (n : ℕ) → j.job.act ≡ JobAct.Scan want
-        → Does S.view j place state.old state.new (faults_beside S.view state.old n) (faults_beside S.view state.new n) result }
+        → Does S.view j place state.old state.new (faults_beside S.view state.old n)
+            (faults_beside S.view state.new n) result }
 {
     let (reply, opened) = open_version(alloc, state, want);
     match opened {
@@ -153,7 +156,8 @@ fn scan_version<S: Store>(alloc: Global, state: &mut State<S>, want: Want, place
 // Counts the rows of the current version.
 fn count_rows<S: Store>(state: &State<S>) -> Done
     ensures { (j : FiledJob) (n place : ℕ) → j.job.act ≡ JobAct.Stat
-        → Does S.view j place state.now state.now (faults_beside S.view state.now n) (faults_beside S.view state.now n) result }
+        → Does S.view j place state.now state.now (faults_beside S.view state.now n)
+            (faults_beside S.view state.now n) result }
 {
     Done {
         turn: true,
@@ -171,7 +175,8 @@ fn do_job<S: Store>(
 ) -> Done
     requires built { is_built job.now.job ≡ true }
     requires within { HasFewBytes job.now }
-    ensures { Does S.view job.now place state.old state.new (faults_beside S.view state.old (S.Maker.view maker.old).faults)
+    ensures { Does S.view job.now place state.old state.new
+        (faults_beside S.view state.old (S.Maker.view maker.old).faults)
         (faults_beside S.view state.new (S.Maker.view maker.new).faults) result }
 {
     match &job.job.act {
@@ -186,7 +191,8 @@ fn do_job<S: Store>(
 fn note(order: &mut Vec<Item>, outcomes: &mut Vec<Outcome>, number: u32, done: Done)
     requires order_room { vec_len order.old < vec_capacity order.old }
     requires outcomes_room { vec_len outcomes.old < vec_capacity outcomes.old }
-    ensures order { order.new.items ≡ (if done.turn then order.old.items ++ (record { job = number; part = ItemPart.Whole }) ∷ [] else order.old.items) }
+    ensures order { order.new.items ≡ (if done.turn
+        then order.old.items ++ (record { job = number; part = ItemPart.Whole }) ∷ [] else order.old.items) }
     ensures outcomes { outcomes.new.items ≡ outcomes.old.items ++ done.outcome ∷ [] }
     ensures order_kept { vec_capacity order.new ≡ vec_capacity order.old }
     ensures outcomes_kept { vec_capacity outcomes.new ≡ vec_capacity outcomes.old }
@@ -207,7 +213,8 @@ pub struct Told {
     pub outcomes: Items<Outcome>,
 }
 
-/// Does jobs in one lane, one after the other, with a maker of its own. A file that it makes and the tablet adopts stays.
+/// Does jobs in one lane, one after the other, with a maker of its own. A file that it makes and the tablet adopts
+/// stays.
 ///
 /// # Errors
 /// `AllocError` where memory is wanting for what they tell: then none was begun.
@@ -222,7 +229,8 @@ pub fn run_lane<S: Store>(
     requires within { AllByRecursion HasFewBytes jobs.now }
     requires open { state.old.closed ≡ None }
     ensures done { IfOk result (λ told. HasDone S.view state.old.contents.schema state.old state.new
-        (faults_beside S.view state.old (S.Maker.view maker.old).faults) (faults_beside S.view state.new (S.Maker.view maker.new).faults)
+        (faults_beside S.view state.old (S.Maker.view maker.old).faults)
+        (faults_beside S.view state.new (S.Maker.view maker.new).faults)
         jobs.now told.order told.outcomes) }
     ensures state { OnErr result (state.new ≡ state.old) }
     ensures maker { OnErr result (maker.new ≡ maker.old) }

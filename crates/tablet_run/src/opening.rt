@@ -48,7 +48,8 @@ fn find_tablet<S: Store>(alloc: Global, store: S, schema: &Schema) -> Result<Sta
 /// Opens the tablet of a store for a table, and makes it where the store is empty.
 ///
 /// # Errors
-/// `Store` where the store failed, and counted it; `Damaged` where it is damaged; `OtherSchema` exactly where it has another table; and `Memory`.
+/// `Store` where the store failed, and counted it; `Damaged` where it is damaged; `OtherSchema` exactly where it has
+/// another table; and `Memory`.
 pub fn open_tablet<S: Store>(
     alloc: Global,
     store: S,

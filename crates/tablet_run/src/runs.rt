@@ -70,8 +70,11 @@ fn run_jobs<S: Store>(alloc: Global, mut state: State<S>, jobs: &[FiledJob]) -> 
     requires within { AllByRecursion HasFewBytes jobs.now }
     requires phases { PhasesRise jobs.now }
     requires open { state.closed ≡ None }
-    ensures ran { IfSome result.told (λ told. Runs state.contents.schema (HadBy S.view state) (faults_of S.view state) (S.view result.store) jobs.now told.order told.outcomes) }
-    ensures kept { IfNone result.told ((b : Book) → Has S.view state b → EachImage (S.view result.store) (Stands state.contents.schema (durable b))) }
+    ensures ran { IfSome result.told
+        (λ told. Runs state.contents.schema (HadBy S.view state) (faults_of S.view state)
+        (S.view result.store) jobs.now told.order told.outcomes) }
+    ensures kept { IfNone result.told ((b : Book) → Has S.view state b
+        → EachImage (S.view result.store) (Stands state.contents.schema (durable b))) }
     ensures honest { (S.view result.store).is_honest ≡ (S.view state.store).is_honest }
 {
     let mut maker = match state.lane_maker() {
@@ -111,8 +114,10 @@ fn serve<O: Sink, S: Store>(alloc: Global, asked: &Asked, out: &mut O, store: S)
     requires built { AllByRecursion (λ j. is_built j.job ≡ true) asked.now.jobs.items }
     requires within { AllByRecursion HasFewBytes asked.now.jobs.items }
     requires phases { PhasesRise asked.now.jobs.items }
-    ensures ends { (files : Option Files) (words : List (List ℕ)) → HasFiled files words asked.now.schema asked.now.jobs.items
-        → Ends (record { files = files; words = words; before = O.held out.old; now = O.held out.new; store = S.view store; left = S.view result.store }) result.cause }
+    ensures ends { (files : Option Files) (words : List (List ℕ))
+        → HasFiled files words asked.now.schema asked.now.jobs.items
+        → Ends (record { files = files; words = words; before = O.held out.old; now = O.held out.new;
+            store = S.view store; left = S.view result.store }) result.cause }
     ensures inputs { (count : ℕ) → InputCause count count result.cause }
     ensures sink { SinkCause (O.faults out.old) (O.faults out.new) result.cause }
     ensures honest { (S.view result.store).is_honest ≡ (S.view store).is_honest }
@@ -143,7 +148,8 @@ fn attempt<'a, I: Inputs, O: Sink, S: Store>(
     store: S,
 ) -> Left<S>
     ensures same { I.files inputs.new ≡ I.files inputs.old }
-    ensures ends { Ends (record { files = I.files inputs.old; words = texts words.entry.now; before = O.held out.old; now = O.held out.new; store = S.view store; left = S.view result.store }) result.cause }
+    ensures ends { Ends (record { files = I.files inputs.old; words = texts words.entry.now; before = O.held out.old;
+        now = O.held out.new; store = S.view store; left = S.view result.store }) result.cause }
     ensures inputs { InputCause (I.faults inputs.old) (I.faults inputs.new) result.cause }
     ensures sink { SinkCause (O.faults out.old) (O.faults out.new) result.cause }
     ensures honest { (S.view result.store).is_honest ≡ (S.view store).is_honest }
@@ -154,16 +160,18 @@ fn attempt<'a, I: Inputs, O: Sink, S: Store>(
     }
 }
 
-/// Runs the jobs of a script over the tablet of a store: the words are `run TABLE SCRIPT`, which name the inputs of the table and the script, and each
-/// load job names the input of its file. An empty store is made a tablet.
+/// Runs the jobs of a script over the tablet of a store: the words are `run TABLE SCRIPT`, which name the inputs of
+/// the table and the script, and each load job names the input of its file. An empty store is made a tablet.
 ///
-/// What is refused first decides: the words; the table's input, then the script's; the table's text, then the script's; the first job that is not built; the
-/// files of loads, in the order of the jobs. Then the store is as it was handed in. Next come the store's opening, and whether its table is the one that the
-/// words name; a run that is refused there leaves an honest store standing for the book that it stood for. In all these cases nothing was put into `out`.
-/// Where the jobs were done, their report was put; at `Sink` a prefix of it stands there, and at `Memory` nothing, or the whole of it, in which a job wanted memory.
+/// What is refused first decides: the words; the table's input, then the script's; the table's text, then the
+/// script's; the first job that is not built; the files of loads, in the order of the jobs. Then the store is as it
+/// was handed in. Next come the store's opening, and whether its table is the one that the words name; a run that is
+/// refused there leaves an honest store standing for the book that it stood for. In all these cases nothing was put
+/// into `out`. Where the jobs were done, their report was put; at `Sink` a prefix of it stands there, and at `Memory`
+/// nothing, or the whole of it, in which a job wanted memory.
 ///
-/// The inputs count one fault more exactly at `InputFault`, and the sink one more exactly at `Sink`. `Store` comes only where the store counted a fault,
-/// and `Damaged` never of an honest store that is empty or stands for a book.
+/// The inputs count one fault more exactly at `InputFault`, and the sink one more exactly at `Sink`. `Store` comes
+/// only where the store counted a fault, and `Damaged` never of an honest store that is empty or stands for a book.
 ///
 /// Limits: 1,048,576 bytes each of table and script, 67,108,864 bytes of a load file and 268,435,456 of all.
 pub fn run<'a, I: Inputs, O: Sink, S: Store>(
@@ -175,7 +183,8 @@ pub fn run<'a, I: Inputs, O: Sink, S: Store>(
 ) -> Ended<S>
     ensures same { I.files inputs.new ≡ I.files inputs.old }
     ensures status { result.status ≡ cause_status result.cause }
-    ensures ends { Ends (record { files = I.files inputs.old; words = texts words.entry.now; before = O.held out.old; now = O.held out.new; store = S.view store; left = S.view result.store }) result.cause }
+    ensures ends { Ends (record { files = I.files inputs.old; words = texts words.entry.now; before = O.held out.old;
+        now = O.held out.new; store = S.view store; left = S.view result.store }) result.cause }
     ensures inputs { InputCause (I.faults inputs.old) (I.faults inputs.new) result.cause }
     ensures sink { SinkCause (O.faults out.old) (O.faults out.new) result.cause }
     ensures honest { (S.view result.store).is_honest ≡ (S.view store).is_honest }
@@ -183,9 +192,11 @@ pub fn run<'a, I: Inputs, O: Sink, S: Store>(
     ensures intact { (d : Damaged) → result.cause ≡ Cause.Damaged d → StandsForNone (S.view store) }
 
     // Where all is there and well, and no count rises, each job was done or refused, or memory was wanting.
-    ensures complete { (files : Files) (s : Layout) (jobs : List FiledJob) → I.files inputs.old ≡ Some files → HasFiled (Some files) (texts words.entry.now) s jobs
+    ensures complete { (files : Files) (s : Layout) (jobs : List FiledJob) → I.files inputs.old ≡ Some files
+        → HasFiled (Some files) (texts words.entry.now) s jobs
         → (b : Book) → Opens (S.view store) s b
-        → (RoseBy 1 (I.faults inputs.old) (I.faults inputs.new) → ⊥) → (RoseBy 1 (O.faults out.old) (O.faults out.new) → ⊥)
+        → (RoseBy 1 (I.faults inputs.old) (I.faults inputs.new) → ⊥)
+            → (RoseBy 1 (O.faults out.old) (O.faults out.new) → ⊥)
         → (RoseBy 1 (S.view store).faults (S.view result.store).faults → ⊥) → IsWell result.cause }
 {
     let Left { cause, store } = attempt(alloc, words, inputs, out, store);

@@ -38,7 +38,8 @@ fn put_next<R: SealedReader>(
         → PutsNext more rows text.old.items text.new.items (AreToCome scan.new)) }
     ensures unfailed { IfOk result (λ _. scan.new.fault ≡ None) }
     ensures counted { IfErr result (λ e. e ≡ outside.Fault → 1 ≤ fault_count scan.new.snapshot.parts) }
-    ensures intact { IfErr result (λ e. (d : Damaged) → e ≡ outside.Damaged d → (rows : List (List Value)) → AreToCome scan.old rows → ⊥) }
+    ensures intact { IfErr result (λ e. (d : Damaged) → e ≡ outside.Damaged d → (rows : List (List Value))
+        → AreToCome scan.old rows → ⊥) }
 {
     match scan.next_row(alloc) {
         Ok(Some(row)) => {
@@ -71,9 +72,11 @@ pub fn text_of_rows<R: SealedReader>(
     count: u64,
 ) -> Result<Octets, OutsideFault>
     requires unfailed { scan.old.fault ≡ None }
-    ensures rows { IfOk result (λ text. (rows : List (List Value)) → AreToCome scan.old rows → length rows ≡ count → text ≡ rows_text rows) }
+    ensures rows { IfOk result (λ text. (rows : List (List Value)) → AreToCome scan.old rows → length rows ≡ count
+        → text ≡ rows_text rows) }
     ensures counted { IfErr result (λ e. e ≡ outside.Fault → 1 ≤ fault_count scan.new.snapshot.parts) }
-    ensures intact { IfErr result (λ e. (d : Damaged) → e ≡ outside.Damaged d → (rows : List (List Value)) → AreToCome scan.old rows → ⊥) }
+    ensures intact { IfErr result (λ e. (d : Damaged) → e ≡ outside.Damaged d → (rows : List (List Value))
+        → AreToCome scan.old rows → ⊥) }
 {
     let mut text = Vec::new(alloc);
     for i in 0..count {
