@@ -117,7 +117,7 @@ module _ (s : Layout) (jobs : List FiledJob) where
           subst (λ m. AreOfBook (turns_of m ts)) same (calm-course s j (turns_of (1 + n) ts) found.0 found.1 found.2)
 
   calm-run : (book : Book) (ts : List Turn) (es : List Entry) (os : List Outcome) → HasRun s book jobs ts es os → AllByRecursion IsUndisturbed os → AreOfBook ts
-  calm-run book ts es os h u = by-jobs (λ t. IsOfBook t.reply) (HasJob jobs) ts (calm-job ts os h.fits.courses u) (have-jobs ts ts es h.made)
+  calm-run book ts es os h u = by-jobs (λ t. IsOfBook t.reply) (HasJob jobs) ts (calm-job ts os h.goes.fits.courses u) (have-jobs ts ts es h.goes.made)
 
 -- ---- the turns follow from the order
 
@@ -192,12 +192,12 @@ order-determines s book jobs order os ps r q u w =
     let h = r.run in
     let k = q.run in
     let items : map item_of r.turns ≡ map item_of q.turns = sym r.order_is ∙ q.order_is in
-    let same = same-runs s jobs r.turns q.turns (λ n. first-same n 1 r.turns q.turns items h.placed k.placed) book 1 r.turns q.turns r.entries q.entries items h.placed k.placed
-    h.made k.made h.legal k.legal (calm-run s jobs book r.turns r.entries os h u) (calm-run s jobs book q.turns q.entries ps k w) in
-    let courses : HaveCourses s r.turns 1 jobs ps = subst (λ ts. HaveCourses s ts 1 jobs ps) (sym same.0) k.fits.courses in
+    let same = same-runs s jobs r.turns q.turns (λ n. first-same n 1 r.turns q.turns items h.goes.placed k.goes.placed) book 1 r.turns q.turns r.entries q.entries items h.goes.placed k.goes.placed
+    h.goes.made k.goes.made h.legal k.legal (calm-run s jobs book r.turns r.entries os h u) (calm-run s jobs book q.turns q.entries ps k w) in
+    let courses : HaveCourses s r.turns 1 jobs ps = subst (λ ts. HaveCourses s ts 1 jobs ps) (sym same.0) k.goes.fits.courses in
     let rows : HaveRows (book_at s book r.entries) r.turns 1 jobs ps =
     subst (λ ts. HaveRows (book_at s book r.entries) ts 1 jobs ps) (sym same.0) (subst (λ es. HaveRows (book_at s book es) q.turns 1 jobs ps) (sym same.1) k.rows) in
-    same-outcomes s (book_at s book r.entries) r.turns 1 jobs os ps h.fits.courses courses h.rows rows u w
+    same-outcomes s (book_at s book r.entries) r.turns 1 jobs os ps h.goes.fits.courses courses h.rows rows u w
 
 -- ---- inputs that tell determine the files
 

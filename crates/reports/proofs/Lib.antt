@@ -10,3 +10,6 @@ pub mod RunLaws
 pub mod GatherLaws
 pub mod LaneLaws
 pub mod ClosingLaws
+pub mod ProgressLaws
+pub mod ProgressRuns
+pub mod BearingLaws

@@ -14,9 +14,9 @@ use Rattle.reports.specs.declared.jobs.FiledJob.{FiledJob}
 use Rattle.reports.specs.declared.turns.Turn.{Turn}
 use Rattle.reports.specs.Jobs.{job_at, phase_at, turns_of}
 use Rattle.reports.specs.Courses.{IsCourse}
-use Rattle.reports.specs.Orders.{Each, EachJob, InLanes, InPhases, IsListed, IsListedIn}
-use Rattle.reports.specs.Reports.{AreEntries, ArePlaced, HasItsRows, IsEntry, IsTurnOf, TellsTheRows, book_at}
-use Rattle.reports.specs.Notes.{AreNotes, AreSorted, In, IsNoteOf, IsSeen, Note, NotesMakeRun, NotesStay, TurnsStay, Rise, entry_at, outcomes_in, turns_in}
+use Rattle.reports.specs.Orders.{AreNotRunFrom, Each, EachJob, InLanes, InPhases, IsListed, IsListedIn}
+use Rattle.reports.specs.Reports.{GoesBy, AreEntries, ArePlaced, HasItsRows, IsEntry, IsTurnOf, TellsTheRows, book_at}
+use Rattle.reports.specs.Notes.{AreMade, AreNotes, AreSorted, CameInOrder, EachNote, In, IsMade, IsNoteOf, IsSeen, Note, NotesFollow, NotesMakeRun, NotesStay, TurnsStay, Rise, entry_at, outcomes_in, turns_in}
 
 none-some : {X : Type 0} (x : X) → None ≡ Some x → ⊥
 none-some x e = cc
@@ -213,10 +213,11 @@ from-notes (y ∷ notes) t h = elim (in-either y.turns (turns_in notes) t h) [
   | inr b ↦ let found = from-notes notes t b in (suc found.0, found.1, found.2, found.3)
 ]
 
-module _ (s : Layout) (book : Book) (seen : List Entry) where
+-- notes of which something is known, that makes them well made
+module _ (s : Layout) (seen : List Entry) (Is : FiledJob → Note → Type 0) (well : (j : FiledJob) (x : Note) → Is j x → IsMade s seen j x) where
   -- the note in a place is that of the job in this place
-  pub note-at : (n : ℕ) (jobs : List FiledJob) (notes : List Note) → AreNotes s book seen n jobs notes → (i : ℕ) (x : Note) → slice_get notes i ≡ Some x
-      → (j : FiledJob) × (slice_get jobs i ≡ Some j) × (x.job ≡ n + i) × IsNoteOf s book seen j x
+  pub note-at : (n : ℕ) (jobs : List FiledJob) (notes : List Note) → EachNote Is n jobs notes → (i : ℕ) (x : Note) → slice_get notes i ≡ Some x
+      → (j : FiledJob) × (slice_get jobs i ≡ Some j) × (x.job ≡ n + i) × Is j x
   note-at n [] [] h i x e = absurd (none-some x e)
   note-at n [] (y ∷ notes) h i x e = absurd h
   note-at n (j ∷ jobs) [] h i x e = absurd h
@@ -224,26 +225,30 @@ module _ (s : Layout) (book : Book) (seen : List Entry) where
       let same = same_Some y x e in
       let number : y.job ≡ n = h.0 in
       let here : x.job ≡ y.job = ap (λ (z : Note). z.job) (sym same) in
-      (j, refl, omega (arith, number, here), subst (λ (z : Note). IsNoteOf s book seen j z) same h.1)
+      (j, refl, omega (arith, number, here), subst (λ (z : Note). Is j z) same h.1)
   note-at n (j ∷ jobs) (y ∷ notes) h (suc i) x e =
       let found = note-at (n + 1) jobs notes h.2 i x e in
       let number = found.2 in
       (found.0, found.1, omega (arith, number), found.3)
 
-  module _ (jobs : List FiledJob) (notes : List Note) (ts : List Turn) (are : AreNotes s book seen 1 jobs notes) (sorted : AreSorted notes seen ts) where
+  made-at : (n : ℕ) (jobs : List FiledJob) (notes : List Note) → EachNote Is n jobs notes → (i : ℕ) (x : Note) → slice_get notes i ≡ Some x
+      → (j : FiledJob) × (slice_get jobs i ≡ Some j) × (x.job ≡ n + i) × IsMade s seen j x
+  made-at n jobs notes h i x e = let found = note-at n jobs notes h i x e in (found.0, found.1, found.2, well found.0 x found.3)
+
+  module _ (jobs : List FiledJob) (notes : List Note) (ts : List Turn) (are : EachNote Is 1 jobs notes) (sorted : AreSorted notes seen ts) where
     -- the turns of a job are those of its note
     turns-noted : (i : ℕ) (x : Note) → slice_get notes i ≡ Some x → turns_of (1 + i) ts ≡ x.turns
     turns-noted i x e =
         same-members 0 (turns_of (1 + i) ts) x.turns (filter-rises (1 + i) 0 ts sorted.rise) mine.3.rise into from
       where
-        mine : (j : FiledJob) × (slice_get jobs i ≡ Some j) × (x.job ≡ 1 + i) × IsNoteOf s book seen j x
-        mine = note-at 1 jobs notes are i x e
+        mine : (j : FiledJob) × (slice_get jobs i ≡ Some j) × (x.job ≡ 1 + i) × IsMade s seen j x
+        mine = made-at 1 jobs notes are i x e
 
         into : (t : Turn) → In (turns_of (1 + i) ts) t → In x.turns t
         into t h =
             let found = of-job (1 + i) ts t h in
             let noted = from-notes notes t ((sorted.same t).0 found.0) in
-            let other = note-at 1 jobs notes are noted.0 noted.1 noted.2 in
+            let other = made-at 1 jobs notes are noted.0 noted.1 noted.2 in
             let own : t.job ≡ noted.1.job = all-in (λ t. t.job ≡ noted.1.job) noted.1.turns other.3.own t noted.3 in
             let number : noted.1.job ≡ 1 + noted.0 = other.2 in
             let job : t.job ≡ 1 + i = found.1 in
@@ -261,7 +266,7 @@ module _ (s : Layout) (book : Book) (seen : List Entry) where
     turn-seen t h =
         let noted = from-notes notes t ((sorted.same t).0 h) in
         let x = noted.1 in
-        let mine = note-at 1 jobs notes are noted.0 x noted.2 in
+        let mine = made-at 1 jobs notes are noted.0 x noted.2 in
         let own : t.job ≡ x.job = all-in (λ t. t.job ≡ x.job) x.turns mine.3.own t noted.3 in
         let at : t.job ≡ suc noted.0 = let number = mine.2 in omega (arith, own, number) in
         let there : job_at jobs t.job ≡ Some mine.0 = ap (job_at jobs) at ∙ mine.1 in
@@ -293,23 +298,23 @@ module _ (s : Layout) (book : Book) (seen : List Entry) where
     made = are-entries s jobs ts 1 ts seen placed sorted.count (all-from (Finds (IsEntry s jobs ts) 1 seen) ts (λ t h. found-at (IsEntry s jobs ts) seen t (turn-seen t h)))
 
     -- what holds of each job and its note holds of its turns among all
-    each-noted : (Is : FiledJob → List Turn → Outcome → Type 0) → ((j : FiledJob) (x : Note) → IsNoteOf s book seen j x → Is j x.turns x.outcome)
-        → (n i : ℕ) (js : List FiledJob) (xs : List Note) → n ≡ 1 + i → AreNotes s book seen n js xs → ((k : ℕ) → slice_get xs k ≡ slice_get notes (i + k))
-        → EachJob (λ n j o. Is j (turns_of n ts) o) n js (outcomes_in xs)
-    each-noted Is f n i [] [] e h at = tt
-    each-noted Is f n i [] (x ∷ xs) e h at = absurd h
-    each-noted Is f n i (j ∷ js) [] e h at = absurd h
-    each-noted Is f n i (j ∷ js) (x ∷ xs) e h at =
+    each-noted : (Holds : FiledJob → List Turn → Outcome → Type 0) → ((j : FiledJob) (x : Note) → Is j x → Holds j x.turns x.outcome)
+        → (n i : ℕ) (js : List FiledJob) (xs : List Note) → n ≡ 1 + i → EachNote Is n js xs → ((k : ℕ) → slice_get xs k ≡ slice_get notes (i + k))
+        → EachJob (λ n j o. Holds j (turns_of n ts) o) n js (outcomes_in xs)
+    each-noted Holds f n i [] [] e h at = tt
+    each-noted Holds f n i [] (x ∷ xs) e h at = absurd h
+    each-noted Holds f n i (j ∷ js) [] e h at = absurd h
+    each-noted Holds f n i (j ∷ js) (x ∷ xs) e h at =
         let here : i + 0 ≡ i = omega arith in
         let noted : turns_of (1 + i) ts ≡ x.turns = turns-noted i x (sym (at 0 ∙ ap (slice_get notes) here)) in
         let turns : x.turns ≡ turns_of n ts = sym noted ∙ ap (λ n. turns_of n ts) (sym e) in (
-          subst (λ us. Is j us x.outcome) turns (f j x h.1),
-          each-noted Is f (n + 1) (i + 1) js xs (omega (arith, e)) h.2 (λ k. let moved : i + suc k ≡ i + 1 + k = omega arith in at (suc k) ∙ ap (slice_get notes) moved),
+          subst (λ us. Holds j us x.outcome) turns (f j x h.1),
+          each-noted Holds f (n + 1) (i + 1) js xs (omega (arith, e)) h.2 (λ k. let moved : i + suc k ≡ i + 1 + k = omega arith in at (suc k) ∙ ap (slice_get notes) moved),
         )
 
-    all-noted : (Is : FiledJob → List Turn → Outcome → Type 0) → ((j : FiledJob) (x : Note) → IsNoteOf s book seen j x → Is j x.turns x.outcome)
-        → EachJob (λ n j o. Is j (turns_of n ts) o) 1 jobs (outcomes_in notes)
-    all-noted Is f = each-noted Is f 1 0 jobs notes (omega arith) are (λ k. let none : k ≡ 0 + k = omega arith in ap (slice_get notes) none)
+    all-noted : (Holds : FiledJob → List Turn → Outcome → Type 0) → ((j : FiledJob) (x : Note) → Is j x → Holds j x.turns x.outcome)
+        → EachJob (λ n j o. Holds j (turns_of n ts) o) 1 jobs (outcomes_in notes)
+    all-noted Holds f = each-noted Holds f 1 0 jobs notes (omega arith) are (λ k. let none : k ≡ 0 + k = omega arith in ap (slice_get notes) none)
 
     -- a device gave each turn only what it may
     all-listed : AllByRecursion (IsListedIn jobs) ts
@@ -319,44 +324,54 @@ module _ (s : Layout) (book : Book) (seen : List Entry) where
         is t h =
             let noted = from-notes notes t ((sorted.same t).0 h) in
             let x = noted.1 in
-            let mine = note-at 1 jobs notes are noted.0 x noted.2 in
+            let mine = made-at 1 jobs notes are noted.0 x noted.2 in
             let own : t.job ≡ x.job = all-in (λ t. t.job ≡ x.job) x.turns mine.3.own t noted.3 in
             let at : t.job ≡ suc noted.0 = let number = mine.2 in omega (arith, own, number) in
             let there : job_at jobs t.job ≡ Some mine.0 = ap (job_at jobs) at ∙ mine.1 in
             let fine : IsListed mine.0 t = all-in (IsListed mine.0) x.turns mine.3.listed t noted.3 in
             subst (λ o. IsSomeAnd o (λ j. IsListed j t)) (sym there) fine
 
+module _ (s : Layout) (seen : List Entry) (Is : FiledJob → Note → Type 0) (well : (j : FiledJob) (x : Note) → Is j x → IsMade s seen j x) where
+  pub notes-go : (jobs : List FiledJob) (notes : List Note) (ts : List Turn) (stops : ℕ) → EachNote Is 1 jobs notes → AreSorted notes seen ts → CameInOrder jobs (turns_in notes)
+      → 2 ≤ stops → AreNotRunFrom stops jobs (outcomes_in notes) → GoesBy s jobs ts seen (outcomes_in notes)
+  notes-go jobs notes ts stops are sorted came late not_run = record {
+    placed = placed s seen Is well jobs notes ts are sorted;
+    made = made s seen Is well jobs notes ts are sorted;
+    fits = record {
+      named = have-jobs s jobs ts ts seen (made s seen Is well jobs notes ts are sorted);
+      listed = all-listed s seen Is well jobs notes ts are sorted;
+      phases = each-from (InPhases jobs) 0 ts sorted.rise (λ t u a b lt.
+          phase t u (came.phases u t ((sorted.same u).0 b) ((sorted.same t).0 a)) lt);
+      lanes = each-from (InLanes jobs) 0 ts sorted.rise (λ t u a b lt same.
+          lane t u (came.lanes u t ((sorted.same u).0 b) ((sorted.same t).0 a) (sym same)) lt);
+      courses = all-noted s seen Is well jobs notes ts are sorted (IsCourse s) (λ j x h. (well j x h).course);
+      stops = stops;
+      stops_late = late;
+      not_run = not_run;
+    };
+  }
+    where
+      phase : (t u : Turn) → (phase_at jobs u.job < phase_at jobs t.job → u.place < t.place) → t.place < u.place → phase_at jobs t.job ≤ phase_at jobs u.job
+      phase t u f lt = elim (cases_lt (phase_at jobs u.job) (phase_at jobs t.job)) [
+        | inl less ↦ let back = f less in absurd (omega (arith, back, lt))
+        | inr more ↦ omega (arith, more)
+      ]
+
+      lane : (t u : Turn) → (u.job < t.job → u.place < t.place) → t.place < u.place → t.job ≤ u.job
+      lane t u f lt = elim (cases_lt u.job t.job) [
+        | inl less ↦ let back = f less in absurd (omega (arith, back, lt))
+        | inr more ↦ omega (arith, more)
+      ]
+
+pub notes-follow : NotesFollow
+notes-follow s jobs notes seen ts stops are sorted came late not_run = notes-go s seen (IsMade s seen) (λ j x h. h) jobs notes ts stops are sorted came late not_run
+
 pub notes-make-run : NotesMakeRun
 notes-make-run s book jobs notes seen ts stops are legal sorted came late not_run = record {
-  placed = placed s book seen jobs notes ts are sorted;
+  goes = notes-go s seen (IsNoteOf s book seen) (λ j x h. h.made) jobs notes ts stops are sorted came late not_run;
   legal = legal;
-  made = made s book seen jobs notes ts are sorted;
-  fits = record {
-    named = have-jobs s jobs ts ts seen (made s book seen jobs notes ts are sorted);
-    listed = all-listed s book seen jobs notes ts are sorted;
-    phases = each-from (InPhases jobs) 0 ts sorted.rise (λ t u a b lt.
-        phase t u (came.phases u t ((sorted.same u).0 b) ((sorted.same t).0 a)) lt);
-    lanes = each-from (InLanes jobs) 0 ts sorted.rise (λ t u a b lt same.
-        lane t u (came.lanes u t ((sorted.same u).0 b) ((sorted.same t).0 a) (sym same)) lt);
-    courses = all-noted s book seen jobs notes ts are sorted (IsCourse s) (λ j x h. h.course);
-    stops = stops;
-    stops_late = late;
-    not_run = not_run;
-  };
-  rows = all-noted s book seen jobs notes ts are sorted (λ j us o. TellsTheRows (book_at s book seen) us o) (λ j x h. h.rows);
+  rows = all-noted s seen (IsNoteOf s book seen) (λ j x h. h.made) jobs notes ts are sorted (λ j us o. TellsTheRows (book_at s book seen) us o) (λ j x h. h.rows);
 }
-  where
-    phase : (t u : Turn) → (phase_at jobs u.job < phase_at jobs t.job → u.place < t.place) → t.place < u.place → phase_at jobs t.job ≤ phase_at jobs u.job
-    phase t u f lt = elim (cases_lt (phase_at jobs u.job) (phase_at jobs t.job)) [
-      | inl less ↦ let back = f less in absurd (omega (arith, back, lt))
-      | inr more ↦ omega (arith, more)
-    ]
-
-    lane : (t u : Turn) → (u.job < t.job → u.place < t.place) → t.place < u.place → t.job ≤ u.job
-    lane t u f lt = elim (cases_lt u.job t.job) [
-      | inl less ↦ let back = f less in absurd (omega (arith, back, lt))
-      | inr more ↦ omega (arith, more)
-    ]
 
 -- ---- a longer history
 
@@ -376,19 +391,27 @@ pub entry-longer : (P : Entry → Type 0) (es more : List Entry) (n : ℕ) → I
 entry-longer P es more zero h = absurd h
 entry-longer P es more (suc n) h = let rest = got-longer P es more n h in (rest.0, omega (arith, rest.1))
 
-pub notes-stay : NotesStay
-notes-stay s book seen more j x h = record {
+longer : (s : Layout) (seen more : List Entry) (j : FiledJob) (x : Note) → IsMade s seen j x → (t : Turn) → In x.turns t
+    → IsSomeAnd (entry_at (seen ++ more) t.place) (IsTurnOf s j x.turns t) × (t.place ≤ length seen)
+longer s seen more j x h t i = entry-longer (IsTurnOf s j x.turns t) seen more t.place (all-in (IsSeen s seen j x.turns) x.turns h.stood t i)
+
+pub made-stay : (s : Layout) (seen more : List Entry) (j : FiledJob) (x : Note) → IsMade s seen j x → IsMade s (seen ++ more) j x
+made-stay s seen more j x h = record {
   own = h.own;
   rise = h.rise;
-  stood = all-from (IsSeen s (seen ++ more) j x.turns) x.turns (λ t i. (longer t i).0);
+  stood = all-from (IsSeen s (seen ++ more) j x.turns) x.turns (λ t i. (longer s seen more j x h t i).0);
   listed = h.listed;
   course = h.course;
-  rows = rows-agree (book_at s book seen) (book_at s book (seen ++ more)) x.turns x.outcome
-      (all-from (λ t. book_at s book seen t.place ≡ book_at s book (seen ++ more) t.place) x.turns (λ t i. ap (replay s book 1) (sym (take-append-le t.place seen more (longer t i).1)))) h.rows;
 }
-  where
-    longer : (t : Turn) → In x.turns t → IsSomeAnd (entry_at (seen ++ more) t.place) (IsTurnOf s j x.turns t) × (t.place ≤ length seen)
-    longer t i = entry-longer (IsTurnOf s j x.turns t) seen more t.place (all-in (IsSeen s seen j x.turns) x.turns h.stood t i)
+
+pub rows-stay : (s : Layout) (book : Book) (seen more : List Entry) (j : FiledJob) (x : Note) → IsMade s seen j x
+    → TellsTheRows (book_at s book seen) x.turns x.outcome → TellsTheRows (book_at s book (seen ++ more)) x.turns x.outcome
+rows-stay s book seen more j x h rows =
+    rows-agree (book_at s book seen) (book_at s book (seen ++ more)) x.turns x.outcome
+    (all-from (λ t. book_at s book seen t.place ≡ book_at s book (seen ++ more) t.place) x.turns (λ t i. ap (replay s book 1) (sym (take-append-le t.place seen more (longer s seen more j x h t i).1)))) rows
+
+pub notes-stay : NotesStay
+notes-stay s book seen more j x h = record { made = made-stay s seen more j x h.made; rows = rows-stay s book seen more j x h.made h.rows }
 
 pub turns-stay : TurnsStay
 turns-stay s seen more j mine t h = (entry-longer (IsTurnOf s j mine t) seen more t.place h).0

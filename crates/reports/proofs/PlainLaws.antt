@@ -26,7 +26,7 @@ use Rattle.reports.proofs.NoteLaws.{all-from, all-in, entry-longer, from-notes, 
 
 -- ---- lists one behind the other
 
-rise-append : (k m : ℕ) (ts us : List Turn) → k ≤ m → Rise k ts → ((t : Turn) → In ts t → t.place ≤ m) → Rise m us → Rise k (ts ++ us)
+pub rise-append : (k m : ℕ) (ts us : List Turn) → k ≤ m → Rise k ts → ((t : Turn) → In ts t → t.place ≤ m) → Rise m us → Rise k (ts ++ us)
 rise-append k m [] [] le r b q = tt
 rise-append k m [] (u ∷ us) le r b q = (let first = q.0 in omega (arith, first), q.1)
 rise-append k m (t ∷ ts) us le r b q = (r.0, rise-append t.place m ts us (b t (inl refl)) r.1 (λ u i. b u (inr i)) q)
@@ -35,16 +35,16 @@ all-append : (P : Turn → Type 0) (ts us : List Turn) → AllByRecursion P ts �
 all-append P [] us h k = k
 all-append P (t ∷ ts) us h k = (h.0, all-append P ts us h.1 k)
 
-each-append : (R : Turn → Turn → Type 0) (ts us : List Turn) → Each R ts → Each R us → ((t u : Turn) → In ts t → In us u → R t u) → Each R (ts ++ us)
+pub each-append : (R : Turn → Turn → Type 0) (ts us : List Turn) → Each R ts → Each R us → ((t u : Turn) → In ts t → In us u → R t u) → Each R (ts ++ us)
 each-append R [] us h k f = k
 each-append R (t ∷ ts) us h k f =
     (all-append (R t) ts us h.0 (all-from (R t) us (λ u i. f t u (inl refl) i)), each-append R ts us h.1 k (λ x u i j. f x u (inr i) j))
 
-turns-append : (notes : List Note) (x : Note) → turns_in (notes ++ x ∷ []) ≡ turns_in notes ++ x.turns
+pub turns-append : (notes : List Note) (x : Note) → turns_in (notes ++ x ∷ []) ≡ turns_in notes ++ x.turns
 turns-append [] x = append-nil x.turns
 turns-append (y ∷ notes) x = ap (λ ts. y.turns ++ ts) (turns-append notes x) ∙ sym (append_assoc y.turns (turns_in notes) x.turns)
 
-outcomes-append : (P : Outcome → Type 0) (os : List Outcome) (o : Outcome) → AllByRecursion P os → P o → AllByRecursion P (os ++ o ∷ [])
+pub outcomes-append : (P : Outcome → Type 0) (os : List Outcome) (o : Outcome) → AllByRecursion P os → P o → AllByRecursion P (os ++ o ∷ [])
 outcomes-append P [] o h k = (k, tt)
 outcomes-append P (p ∷ os) o h k = (h.0, outcomes-append P os o h.1 k)
 
@@ -56,13 +56,13 @@ notes-append s book seen more n (i ∷ jobs) [] j x h e k = absurd h
 notes-append s book seen more n (i ∷ jobs) (y ∷ notes) j x h e k =
     (h.0, notes-stay s book seen more i y h.1, notes-append s book seen more (n + 1) jobs notes j x h.2 (omega (arith, e)) k)
 
-legal-append : (s : Layout) (b : Book) (place : ℕ) (es fs : List Entry) → IsLegal s b place es → IsLegal s (replay s b place es) (place + length es) fs → IsLegal s b place (es ++ fs)
+pub legal-append : (s : Layout) (b : Book) (place : ℕ) (es fs : List Entry) → IsLegal s b place es → IsLegal s (replay s b place es) (place + length es) fs → IsLegal s b place (es ++ fs)
 legal-append s b place [] fs h k = let e : place + 0 ≡ place = omega arith in subst (λ p. IsLegal s b p fs) e k
 legal-append s b place (e ∷ es) fs h k =
     let moved : place + suc (length es) ≡ place + 1 + length es = omega arith in
     (h.0, legal-append s (next s b place e.0 e.1) (place + 1) es fs h.1 (subst (λ p. IsLegal s (replay s (next s b place e.0 e.1) (place + 1) es) p fs) moved k))
 
-get-here : (es : List Entry) (e : Entry) (fs : List Entry) → slice_get (es ++ e ∷ fs) (length es) ≡ Some e
+pub get-here : (es : List Entry) (e : Entry) (fs : List Entry) → slice_get (es ++ e ∷ fs) (length es) ≡ Some e
 get-here [] e fs = refl
 get-here (x ∷ es) e fs = get-here es e fs
 
@@ -81,11 +81,11 @@ module _ (s : Layout) (book : Book) (jobs : List FiledJob) (old : Course) (h : H
   within t i =
       let noted = from-notes h.notes t i in
       let x = noted.1 in
-      let mine = note-at s book h.seen 1 jobs h.notes h.are noted.0 x noted.2 in
-      let own : t.job ≡ x.job = all-in (λ t. t.job ≡ x.job) x.turns mine.3.own t noted.3 in
+      let mine = note-at s h.seen (IsNoteOf s book h.seen) (λ j x k. k.made) 1 jobs h.notes h.are noted.0 x noted.2 in
+      let own : t.job ≡ x.job = all-in (λ t. t.job ≡ x.job) x.turns mine.3.made.own t noted.3 in
       let number = mine.2 in
       let less = got jobs noted.0 mine.0 mine.1 in
-      ((entry-longer (IsTurnOf s mine.0 x.turns t) h.seen [] t.place (all-in (IsSeen s h.seen mine.0 x.turns) x.turns mine.3.stood t noted.3)).1, omega (arith, own, number, less))
+      ((entry-longer (IsTurnOf s mine.0 x.turns t) h.seen [] t.place (all-in (IsSeen s h.seen mine.0 x.turns) x.turns mine.3.made.stood t noted.3)).1, omega (arith, own, number, less))
     where
       got : (js : List FiledJob) (n : ℕ) (j : FiledJob) → slice_get js n ≡ Some j → n < length js
       got [] n j e = absurd (none-some e)
@@ -125,7 +125,7 @@ module _ (s : Layout) (book : Book) (jobs : List FiledJob) (old : Course) (h : H
         rise = subst (Rise 0) (sym turns) (rise-append 0 (length h.seen) (turns_in h.notes) x.turns (omega arith) h.rise (λ t i. (within t i).0) rise);
         count = ap length turns ∙ omega (arith, turns_count, seen_count, count, old_count);
         in_order = subst (Each InJobOrder) (sym turns) (each-append InJobOrder (turns_in h.notes) x.turns h.in_order each
-            (λ t u i k. let low = (within t i).1 in let own : u.job ≡ x.job = all-in (λ t. t.job ≡ x.job) x.turns is.own u k in omega (arith, low, own, number)));
+            (λ t u i k. let low = (within t i).1 in let own : u.job ≡ x.job = all-in (λ t. t.job ≡ x.job) x.turns is.made.own u k in omega (arith, low, own, number)));
         order_is = order ∙ ap (λ o. o ++ map item_of x.turns) h.order_is ∙ sym (ap (map item_of) turns ∙ map-append item_of (turns_in h.notes) x.turns);
         outcomes_are = outcomes ∙ ap (λ o. o ++ x.outcome ∷ []) h.outcomes_are ∙ sym outs;
         run = subst (AllByRecursion WasRun) (sym outs) (outcomes-append WasRun (outcomes_in h.notes) x.outcome h.run run);
@@ -148,7 +148,7 @@ module _ (s : Layout) (book : Book) (jobs : List FiledJob) (old : Course) (h : H
       → HasCome s book (jobs ++ j ∷ []) new
   add-none j o new course run same order outcomes =
       let noted : Note = record { job = length jobs + 1; turns = []; outcome = o } in
-      add-note j noted [] new refl (record { own = tt; rise = tt; stood = tt; listed = tt; course = course; rows = tt }) tt (sym same) tt tt refl (omega arith) run
+      add-note j noted [] new refl (record { made = record { own = tt; rise = tt; stood = tt; listed = tt; course = course }; rows = tt }) tt (sym same) tt tt refl (omega arith) run
       (subst HaveTexts (sym same) h.texts) (order ∙ sym (append-nil old.order)) outcomes
 
   -- a job of one turn, or one that ended with its first
@@ -170,7 +170,7 @@ module _ (s : Layout) (book : Book) (jobs : List FiledJob) (old : Course) (h : H
       let stood : IsSeen s (h.seen ++ e ∷ []) j (t ∷ []) t =
       subst (λ x. IsSomeAnd x (IsTurnOf s j (t ∷ []) t)) (sym (get-here h.seen e [])) (record { calls = calls (t ∷ []); replies = refl }) in
       add-note j noted (e ∷ []) new refl
-      (record { own = (refl, tt); rise = (omega arith, tt); stood = (stood, tt); listed = (listed, tt); course = course t refl refl; rows = (subst (λ b. HasItsRows b o) (sym (book-one new e left)) rows, tt) })
+      (record { made = record { own = (refl, tt); rise = (omega arith, tt); stood = (stood, tt); listed = (listed, tt); course = course t refl refl }; rows = (subst (λ b. HasItsRows b o) (sym (book-one new e left)) rows, tt) })
       (may, tt) left (omega arith, tt) (tt, tt) refl (omega arith) run texts order outcomes
 
   -- a job of a first and a last turn
@@ -203,5 +203,5 @@ module _ (s : Layout) (book : Book) (jobs : List FiledJob) (old : Course) (h : H
       let stood_too : IsSeen s (h.seen ++ e ∷ f ∷ []) j mine u =
       subst (λ x. IsSomeAnd x (IsTurnOf s j mine u)) (sym (get-next h.seen e f)) (record { calls = last t (u ∷ []) (omega (arith, same)); replies = refl }) in
       add-note j noted (e ∷ f ∷ []) new refl
-      (record { own = (refl, (refl, tt)); rise = (omega arith, (omega arith, tt)); stood = (stood, (stood_too, tt)); listed = (listed, (late, tt)); course = course t u refl refl refl refl; rows = (rows (books t.place), (rows (books u.place), tt)) })
+      (record { made = record { own = (refl, (refl, tt)); rise = (omega arith, (omega arith, tt)); stood = (stood, (stood_too, tt)); listed = (listed, (late, tt)); course = course t u refl refl refl refl }; rows = (rows (books t.place), (rows (books u.place), tt)) })
       (may, (subst (λ b. MayReply b d q) (sym first) goes, tt)) left (omega arith, (omega arith, tt)) ((omega arith, tt), (tt, tt)) refl (omega arith) run texts order outcomes

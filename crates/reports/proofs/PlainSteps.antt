@@ -175,7 +175,7 @@ module _ (s : Layout) (valid : schema_fault s.columns s.keys ≡ None) (b : Book
 
 -- ---- the course of each kind of job
 
-tells-course : (a : JobAct) (t : Turn) (r : Reply) → TellsReply a → t.part ≡ part.Whole → t.reply ≡ r → HasTurns a (t ∷ []) (outcome.Turn r)
+pub tells-course : (a : JobAct) (t : Turn) (r : Reply) → TellsReply a → t.part ≡ part.Whole → t.reply ≡ r → HasTurns a (t ∷ []) (outcome.Turn r)
 tells-course (act.Load name) t r h p e = (p, ap outcome.Turn (sym e))
 tells-course (act.Partial name) t r h p e = absurd h
 tells-course (act.Scan want) t r h p e = absurd h
@@ -306,7 +306,7 @@ whole-does s number c r old mid new j valid taken takes told tells calls book jo
     (told.order ∙ takes.order ∙ ap (λ (n : ℕ). old.order ++ (record { job = n; part = part.Whole }) ∷ []) e)
     (told.outcomes ∙ ap (λ (os : List Outcome). os ++ outcome.Turn r ∷ []) takes.outcomes)
 
-refused-tells : (r : Result Load LoadFault) (f : LoadFault) → (f ≢ fault.Memory → r ≡ Err f) → ReadingTells r f
+pub refused-tells : (r : Result Load LoadFault) (f : LoadFault) → (f ≢ fault.Memory → r ≡ Err f) → ReadingTells r f
 refused-tells r f h = by f h
   where
     told : (g : LoadFault) → r ≡ Err g → ReadingTells r g
@@ -363,11 +363,11 @@ load-tells a name e = subst TellsReply (sym e) tt
 
 -- ---- a scan
 
-unless : (o : Option ℕ) (b : Book) → change_unless o b b ≡ b
+pub unless : (o : Option ℕ) (b : Book) → change_unless o b b ≡ b
 unless None b = refl
 unless (Some p) b = refl
 
-open-stays : (s : Layout) (b : Book) (place : ℕ) (w : Want) (r : Reply) → IsOfBook r → next s b place (call.Open w) r ≡ b
+pub open-stays : (s : Layout) (b : Book) (place : ℕ) (w : Want) (r : Reply) → IsOfBook r → next s b place (call.Open w) r ≡ b
 open-stays s b place w (reply.Published v) h = unless b.closed b
 open-stays s b place w (reply.Opened v) h = unless b.closed b
 open-stays s b place w (reply.Begun v) h = unless b.closed b
@@ -390,7 +390,7 @@ some-true : {X : Type 0} (o : Option X) → is_some o ≡ true → IsSomeAnd o (
 some-true None e = cc
 some-true (Some x) e = tt
 
-opened-kept : (b : Book) (w : Want) (v : ℕ) → answer b (call.Open w) ≡ reply.Opened v → IsSomeAnd (rows_at b v) (λ m. ⊤)
+pub opened-kept : (b : Book) (w : Want) (v : ℕ) → answer b (call.Open w) ≡ reply.Opened v → IsSomeAnd (rows_at b v) (λ m. ⊤)
 opened-kept b w v e = by b.closed refl w e
   where
     at-version : (u : ℕ) (x y : Truth) → cond x (reply.Expired b.floor) (cond y (reply.NotYet (version b)) (reply.Opened u)) ≡ reply.Opened v → u ≡ v
@@ -423,14 +423,14 @@ scan-texts s number w r old mid takes h =
     subst HaveTexts (sym (takes.book ∙ open-stays s old.book (length old.order + 1) w r own)) h
 
 -- a fault in reading is one whatever the version
-outside-ends : (b : Book) (v : ℕ) (o : Outcome) → IsOutside o → AreRowsOf v o × HasItsRows b o
+pub outside-ends : (b : Book) (v : ℕ) (o : Outcome) → IsOutside o → AreRowsOf v o × HasItsRows b o
 outside-ends b v (outcome.Turn r) h = absurd h
 outside-ends b v (outcome.Rows n c t) h = absurd h
 outside-ends b v (outcome.Load f) h = absurd h
 outside-ends b v (outcome.Outside f) h = (tt, tt)
 outside-ends b v outcome.NotRun h = absurd h
 
-rows-end : (b : Book) (v : ℕ) (o : Outcome) (kept : Option Rows) → rows_at b v ≡ kept → IsSomeAnd kept (λ m. RowsTold v m o) → AreRowsOf v o × HasItsRows b o
+pub rows-end : (b : Book) (v : ℕ) (o : Outcome) (kept : Option Rows) → rows_at b v ≡ kept → IsSomeAnd kept (λ m. RowsTold v m o) → AreRowsOf v o × HasItsRows b o
 rows-end b v o None e h = absurd h
 rows-end b v o (Some m) e h = elim h [
   | inl is ↦ subst (λ p. AreRowsOf v p × HasItsRows b p) (sym is) (refl, subst (λ k. IsSomeAnd k (λ (n : Rows). (fin.len m ≡ fin.len n) × (rows_text (fin.values m) ≡ rows_text (fin.values n)))) (sym e) (refl, refl))

@@ -51,12 +51,16 @@ HasItsRows b o = ⊤
 abbrev pub TellsTheRows : (ℕ → Book) → List Turn → Outcome → Type 0
 TellsTheRows books ts o = AllByRecursion (λ (t : Turn). HasItsRows (books t.place) o) ts
 
--- a history of turns over a book, and what became of each job by it: turns that fit the script, whose calls and replies are legal
--- from the book on, and the rows of each scan
-pub record HasRun (s : Layout) (book : Book) (jobs : List FiledJob) (turns : List Turn) (entries : List Entry) (outcomes : List Outcome) : Type 0 where
+-- a history of turns, and what became of each job by it, whatever book it is of: turns at their places that fit the script, and the
+-- entries of their calls and replies
+pub record GoesBy (s : Layout) (jobs : List FiledJob) (turns : List Turn) (entries : List Entry) (outcomes : List Outcome) : Type 0 where
   pub placed : ArePlaced 1 turns
   pub fits : FitsScript s jobs turns outcomes
   pub made : AreEntries s jobs turns turns entries
+
+-- the same over a book: the calls and replies are legal from it on, and the rows of each scan are its rows
+pub record HasRun (s : Layout) (book : Book) (jobs : List FiledJob) (turns : List Turn) (entries : List Entry) (outcomes : List Outcome) : Type 0 where
+  pub goes : GoesBy s jobs turns entries outcomes
   pub legal : IsLegal s book 1 entries
   pub rows : EachJob (λ n j o. TellsTheRows (book_at s book entries) (turns_of n turns) o) 1 jobs outcomes
 
@@ -78,3 +82,13 @@ pub record FollowsScript (s : Layout) (jobs : List FiledJob) (order : List Item)
 abbrev pub ReportsFollow : Type 0
 ReportsFollow = (s : Layout) (book : Book) (jobs : List FiledJob) (order : List Item) (outcomes : List Outcome)
     → Reports s book jobs order outcomes → FollowsScript s jobs order outcomes
+
+-- so do those that go by their script, over every tablet
+abbrev pub GoesFollow : Type 0
+GoesFollow = (s : Layout) (jobs : List FiledJob) (turns : List Turn) (entries : List Entry) (order : List Item) (outcomes : List Outcome)
+    → order ≡ map item_of turns → GoesBy s jobs turns entries outcomes → FollowsScript s jobs order outcomes
+
+-- and over a book they are a report of it
+abbrev pub RunsReport : Type 0
+RunsReport = (s : Layout) (book : Book) (jobs : List FiledJob) (turns : List Turn) (entries : List Entry) (order : List Item) (outcomes : List Outcome)
+    → order ≡ map item_of turns → HasRun s book jobs turns entries outcomes → Reports s book jobs order outcomes

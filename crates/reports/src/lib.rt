@@ -9,6 +9,6 @@ mod turns;
 
 pub use endings::{Ending, ending_of, status_of};
 pub use jobs::FiledJob;
-pub use laws::{closings, determinism, ends, follows, gathering, lanes, notes, parts};
+pub use laws::{bearing, closings, determinism, ends, follows, gathering, lanes, notes, parts};
 pub use plain::{Course, run_jobs};
 pub use turns::Turn;

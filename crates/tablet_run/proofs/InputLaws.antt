@@ -1,11 +1,10 @@
 -- What was read for jobs, and why a run stops, from where it stopped.
-use Rattle.std.proofs.Common.{◌≡◌, refl, ap, sym, subst, ◌∙◌, ⊎_elim, ℕ, zero, suc, ◌+◌, ◌<◌, ◌≤◌, arith, add-one, List, [], ◌∷◌, ◌++◌, length, take, drop, get_or, Option, Some, None, inl, inr}
+use Rattle.std.proofs.Common.{◌≡◌, refl, ap, sym, subst, ◌∙◌, ⊎_elim, ℕ, zero, suc, ◌+◌, ◌<◌, ◌≤◌, arith, add-one, List, [], ◌∷◌, ◌++◌, length, take, drop, get_or, Option, Some, None, inl, inr, Bool as Truth, true, false, cond}
 use Rattle.std.specs.Prelude.{All, AllPairs, map}
 use Rattle.std.specs.List.{AllByRecursion}
 use Rattle.std.proofs.lemmas.List.{length-map, map-append}
 use Rattle.dev_traits.specs.Streams.{Files}
 use Rattle.pk_values.specs.Schemas.{Layout}
-use Rattle.pk_model.specs.Books.{new_book}
 use Rattle.script_text.specs.Answers.{Follows}
 use Rattle.script_text.specs.declared.scripts.Job.{Job}
 use Rattle.reports.specs.declared.jobs.FiledJob.{FiledJob}
@@ -13,12 +12,8 @@ use Rattle.reports.specs.declared.endings.Ending.{Ending}
 use Rattle.reports.specs.declared.endings.Ending.TheVariants as ending
 use Rattle.reports.specs.Filed.{AreFiled, AreHeld, HasItsFile, bytes_in, file_name, most_files}
 use Rattle.reports.specs.Plain.{HasFewBytes, PhasesRise}
-use Rattle.reports.specs.Texts.{HasTexts, HaveTexts}
-use Rattle.pk_values.specs.Order.{key_cmp}
-use Rattle.pk_values.specs.declared.cells.Value.{Value}
-use Rattle.std.specs.FinMap as fin
-use Rattle.tablet_run.specs.Asks.{Asks, FileIsNext, HasFiled, HasJobs, NamesTexts, first_unbuilt, most_after, limit_after}
-use Rattle.tablet_run.specs.Runs.{Ends, InputCause, IsReport, Reported, Setting, SinkCause, Stops, Tells}
+use Rattle.tablet_run.specs.Asks.{Asks, FileIsNext, HasFiled, HasJobs, NamesTexts, first_unbuilt, is_built, most_after, limit_after}
+use Rattle.tablet_run.specs.Runs.{InputCause, SinkCause, Stops}
 use Rattle.tablet_run.specs.Statuses.{cause_of}
 use Rattle.tablet_run.specs.Steps.{FileStops, JobsStop, PlanStops, PutAs, StopsAt}
 use Rattle.tablet_run.specs.Streams.{Lacks, Exceeds, HeldAfter}
@@ -42,7 +37,7 @@ stops-at files words name most limit (cause.Table f) asks h = absurd h
 stops-at files words name most limit (cause.Script f) asks h = absurd h
 stops-at files words name most limit (cause.Unbuilt n) asks h = absurd h
 stops-at files words name most limit cause.Sink asks h = absurd h
-stops-at files words name most limit cause.OtherSchema asks h = absurd h
+stops-at files words name most limit (cause.OtherSchema t) asks h = absurd h
 stops-at files words name most limit cause.Store asks h = absurd h
 stops-at files words name most limit (cause.Damaged d) asks h = absurd h
 
@@ -60,7 +55,7 @@ plan-stops files words table script cause.None t h = cc
 plan-stops files words table script cause.Refused t h = cc
 plan-stops files words table script cause.Words t h = cc
 plan-stops files words table script cause.Sink t h = cc
-plan-stops files words table script cause.OtherSchema t h = cc
+plan-stops files words table script (cause.OtherSchema k) t h = cc
 plan-stops files words table script cause.Store t h = cc
 plan-stops files words table script (cause.Damaged d) t h = cc
 
@@ -183,60 +178,20 @@ put-as before now text ending.Memory h = (h, refl)
 put-as before now text ending.Store h = (h, refl)
 put-as before now text (ending.Damaged d) h = (h, refl)
 
-reported-ends : (r : Setting) (e : Ending) → Reported r e → Ends r (cause_of e)
-reported-ends r ending.Well h = h
-reported-ends r ending.Refused h = h
-reported-ends r ending.Memory h = inr h
-reported-ends r ending.Store h = h
-reported-ends r (ending.Damaged d) h = h
+-- ---- each job is built
 
--- a report that was put ends the run
-pub put-ends : (r : Setting) (s : Layout) (jobs : List FiledJob) (text : List ℕ) (e : Ending) (c : Cause) → HasFiled r.files r.words s jobs → IsReport s r.book jobs text e
-    → PutAs r.before r.now text e c → Ends r c
-put-ends r s jobs text e c asked reports put = by c put
+no-number : (n : ℕ) → Some n ≡ None → ⊥
+no-number n e = cc
+
+pub all-built : (n : ℕ) (jobs : List Job) (fs : List FiledJob) → map (λ (x : FiledJob). x.job) fs ≡ jobs → first_unbuilt n jobs ≡ None → AllByRecursion (λ (x : FiledJob). is_built x.job ≡ true) fs
+all-built n jobs [] e h = tt
+all-built n [] (f ∷ fs) e h = cc e
+all-built n (j ∷ jobs) (f ∷ fs) e h =
+    let job : f.job ≡ j = cc e in
+    let rest : map (λ (x : FiledJob). x.job) fs ≡ jobs = cc e in
+    let parts = by (is_built j) refl h in
+    (ap is_built job ∙ parts.0, all-built (n + 1) jobs fs rest parts.1)
   where
-    tells : Tells r text e
-    tells = record { s = s; jobs = jobs; asked = asked; reports = reports }
-
-    told : (d : Cause) → HeldAfter r.before r.now text × (d ≡ cause_of e) → Ends r d
-    told d h = subst (Ends r) (sym h.1) (reported-ends r e (text, tells, h.0))
-
-    by : (d : Cause) → PutAs r.before r.now text e d → Ends r d
-    by cause.Sink h = (text, e, tells, h)
-    by cause.None h = told cause.None h
-    by cause.Refused h = told cause.Refused h
-    by cause.Memory h = told cause.Memory h
-    by cause.Store h = told cause.Store h
-    by (cause.Damaged d) h = told (cause.Damaged d) h
-    by cause.OtherSchema h = told cause.OtherSchema h
-    by cause.Words h = told cause.Words h
-    by (cause.Table f) h = told (cause.Table f) h
-    by (cause.Script f) h = told (cause.Script f) h
-    by (cause.Unbuilt n) h = told (cause.Unbuilt n) h
-    by (cause.Missing n) h = told (cause.Missing n) h
-    by (cause.InputFault n) h = told (cause.InputFault n) h
-    by (cause.TooLarge n m) h = told (cause.TooLarge n m) h
-
--- a run that stops before its jobs puts nothing
-pub stop-ends : (r : Setting) (c : Cause) → Stops r.files r.words c → r.now ≡ r.before → Ends r c
-stop-ends r cause.Memory h e = inl e
-stop-ends r cause.Sink h e = absurd h
-stop-ends r cause.None h e = absurd h
-stop-ends r cause.Refused h e = absurd h
-stop-ends r cause.Store h e = absurd h
-stop-ends r (cause.Damaged d) h e = absurd h
-stop-ends r cause.OtherSchema h e = absurd h
-stop-ends r cause.Words h e = (h, e)
-stop-ends r (cause.Table f) h e = (h, e)
-stop-ends r (cause.Script f) h e = (h, e)
-stop-ends r (cause.Unbuilt n) h e = (h, e)
-stop-ends r (cause.Missing n) h e = (h, e)
-stop-ends r (cause.InputFault n) h e = (h, e)
-stop-ends r (cause.TooLarge n m) h e = (h, e)
-
--- a new book has no row, so no cell without a text
-empty-texts : HasTexts (fin.empty {R = key_cmp})
-empty-texts key row e = let none = fin.get-empty {X = List Value} key_cmp key in cc
-
-pub new-texts : HaveTexts new_book
-new-texts = (empty-texts, tt)
+    by : (b : Truth) → is_built j ≡ b → cond b (first_unbuilt (n + 1) jobs) (Some n) ≡ None → (is_built j ≡ true) × (first_unbuilt (n + 1) jobs ≡ None)
+    by true f g = (f, g)
+    by false f g = absurd (no-number n g)

@@ -193,7 +193,7 @@ module _ (fs : Files) (words : List (List ℕ)) where
   first cause.None d h = absurd h
   first cause.Sink d h = absurd h
   first cause.Refused d h = absurd h
-  first cause.OtherSchema d h = absurd h
+  first (cause.OtherSchema t) d h = absurd h
   first cause.Store d h = absurd h
   first (cause.Damaged x) d h = absurd h
 
@@ -215,3 +215,24 @@ causes-exclude fs words c d h k u w = same-some c d (sym (first fs words c u h) 
 
 pub jobs-exclude : JobsExclude
 jobs-exclude fs words s jobs c h k u = none-some c (sym (no-cause fs words s jobs h) ∙ first fs words c u k)
+
+-- ---- the table
+
+abbrev table_named : Files → Option Named → Option (Result Layout TableFault)
+table_named fs None = None
+table_named fs (Some n) = Some (table_of (bytes_of fs n.table))
+
+table-is : (fs : Files) (words : List (List ℕ)) (s : Layout) (jobs : List FiledJob) → HasFiled (Some fs) words s jobs → table_named fs (files_of words) ≡ Some (Ok s)
+table-is fs words s jobs h =
+    let texts = h.has.texts in
+    ap (table_named fs) texts.names ∙ ap (λ bytes. Some (table_of bytes)) (held-bytes fs texts.named.table h.has.table texts.table_held.1) ∙ ap (λ r. Some r) h.has.table_is
+
+abbrev read_as : Layout → Option (Result Layout TableFault)
+read_as s = Some (Ok s)
+
+same-table : (s t : Layout) → read_as s ≡ read_as t → s ≡ t
+same-table s t e = cc e
+
+-- words name one table
+pub one-table : (fs : Files) (words : List (List ℕ)) (s t : Layout) (jobs others : List FiledJob) → HasFiled (Some fs) words s jobs → HasFiled (Some fs) words t others → s ≡ t
+one-table fs words s t jobs others h k = same-table s t (sym (table-is fs words s jobs h) ∙ table-is fs words t others k)

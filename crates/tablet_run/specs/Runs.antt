@@ -3,11 +3,10 @@
 -- its grammar or not, each job is built or not, and then the same of the file that each job names, in the order of the jobs. After the jobs
 -- their outcomes give the cause.
 use Rattle.std.specs.Prelude.{◌≡◌, ◌⊎◌, ℕ, ◌+◌, List, Option, Some, None, Ok, Err, ⊤}
-use Rattle.std.specs.List.{AllByRecursion}
 use Rattle.dev_traits.specs.Causes.{Counts}
 use Rattle.dev_traits.specs.Streams.{Files}
+use Rattle.dev_traits.specs.View.{View}
 use Rattle.pk_values.specs.Schemas.{Layout}
-use Rattle.pk_model.specs.declared.books.Book.{Book}
 use Rattle.schema_json.specs.Tables.{table_of}
 use Rattle.script_text.specs.Scripts.{script_of}
 use Rattle.script_text.specs.Texts.{report}
@@ -19,9 +18,8 @@ use Rattle.reports.specs.declared.jobs.FiledJob.{FiledJob}
 use Rattle.reports.specs.declared.endings.Ending.{Ending}
 use Rattle.reports.specs.declared.endings.Ending.TheVariants as ending
 use Rattle.reports.specs.Endings.{ending_of}
-use Rattle.reports.specs.Plain.{WasRun}
-use Rattle.reports.specs.Reports.{Reports}
 use Rattle.tablet_run.specs.Asks.{Asks, HasFiled, HasJobs, NamesTexts, first_unbuilt}
+use Rattle.tablet_run.specs.Stores.{IsOfTable, IsUntouched, Opens, Refuses, Runs}
 use Rattle.tablet_run.specs.Streams.{Lacks, Exceeds, HeldAfter, FailsAfter}
 use Rattle.tablet_run.specs.declared.causes.Cause.{Cause}
 use Rattle.tablet_run.specs.declared.causes.Cause.TheVariants as cause
@@ -42,59 +40,59 @@ Stops files words cause.Memory = ⊤
 Stops files words cause.None = ⊥
 Stops files words cause.Sink = ⊥
 Stops files words cause.Refused = ⊥
-Stops files words cause.OtherSchema = ⊥
+Stops files words (cause.OtherSchema t) = ⊥
 Stops files words cause.Store = ⊥
 Stops files words (cause.Damaged d) = ⊥
 
--- ---- what a run reports
-
--- a text reports the jobs from a book in memory, and this is how they ended: no device failed under them, since there is none
-pub record IsReport (s : Layout) (book : Book) (jobs : List FiledJob) (text : List ℕ) (e : Ending) : Type 0 where
-  pub order : List Item
-  pub outcomes : List Outcome
-  pub reported : Reports s book jobs order outcomes
-  pub plain : AllByRecursion WasRun outcomes
-  pub text_is : text ≡ report order outcomes
-  pub ending_is : e ≡ ending_of outcomes
-
 -- ---- how a run ends
 
--- what a run is given and what it leaves: what the inputs hold, the words, the opening book, and what the sink held before and holds after
-pub record Setting : Type 0 where
+-- what a run is given and what it leaves: what the inputs hold, the words, what the sink held before and holds after, and the store that was
+-- handed in and the one that is left
+pub record Setting : Type 1 where
   pub files : Option Files
   pub words : List (List ℕ)
-  pub book : Book
   pub before : Option (List ℕ)
   pub now : Option (List ℕ)
+  pub store : View
+  pub left : View
 
--- a text is the report of the jobs that the words name, which ended so
-pub record Tells (r : Setting) (text : List ℕ) (e : Ending) : Type 0 where
+-- the jobs that the words name were done over the store, whose table is theirs; this was their order, and this became of each
+pub record Ran (r : Setting) (order : List Item) (outcomes : List Outcome) : Type 0 where
   pub s : Layout
   pub jobs : List FiledJob
   pub asked : HasFiled r.files r.words s jobs
-  pub reports : IsReport s r.book jobs text e
+  pub table : IsOfTable r.store s
+  pub runs : Runs s (Opens r.store s) r.store.faults r.left jobs order outcomes
 
--- the whole report was put, and its jobs ended so
+-- the whole report was put, and the jobs ended so
 abbrev pub Reported : Setting → Ending → Type 0
-Reported r e = (text : List ℕ) × Tells r text e × HeldAfter r.before r.now text
+Reported r e = (order : List Item) × (outcomes : List Outcome) × Ran r order outcomes × HeldAfter r.before r.now (report order outcomes) × (e ≡ ending_of outcomes)
 
 -- a part of a report was put, and the sink failed
 abbrev pub Broken : Setting → Type 0
-Broken r = (text : List ℕ) × (e : Ending) × Tells r text e × FailsAfter r.before r.now text
+Broken r = (order : List Item) × (outcomes : List Outcome) × Ran r order outcomes × FailsAfter r.before r.now (report order outcomes)
 
--- nothing was put, and this is why
+-- the jobs were done, and nothing was put, since the text wanted memory
+abbrev pub Unput : Setting → Type 0
+Unput r = (order : List Item) × (outcomes : List Outcome) × Ran r order outcomes × (r.now ≡ r.before)
+
+-- no job was begun, since the tablet wasn't opened: nothing was put
+abbrev pub Unopened : Setting → Cause → Type 0
+Unopened r c = (s : Layout) × (jobs : List FiledJob) × HasFiled r.files r.words s jobs × (r.now ≡ r.before) × Refuses s r.store r.left c
+
+-- nothing was done with the store and nothing was put, and this is why
 abbrev pub Stopped : Setting → Cause → Type 0
-Stopped r c = Stops r.files r.words c × (r.now ≡ r.before)
+Stopped r c = Stops r.files r.words c × (r.now ≡ r.before) × IsUntouched r.store r.left
 
--- how a run ends. A run that stops before its jobs puts nothing; a book in memory has no schema of its own
+-- how a run ends
 abbrev pub Ends : Setting → Cause → Type 0
 Ends r cause.None = Reported r ending.Well
 Ends r cause.Refused = Reported r ending.Refused
-Ends r cause.Store = Reported r ending.Store
-Ends r (cause.Damaged d) = Reported r (ending.Damaged d)
-Ends r cause.Memory = (r.now ≡ r.before) ⊎ Reported r ending.Memory
+Ends r cause.Store = Unopened r cause.Store ⊎ Reported r ending.Store
+Ends r (cause.Damaged d) = Unopened r (cause.Damaged d) ⊎ Reported r (ending.Damaged d)
+Ends r cause.Memory = Stopped r cause.Memory ⊎ Unopened r cause.Memory ⊎ Unput r ⊎ Reported r ending.Memory
 Ends r cause.Sink = Broken r
-Ends r cause.OtherSchema = ⊥
+Ends r (cause.OtherSchema t) = Unopened r (cause.OtherSchema t)
 Ends r cause.Words = Stopped r cause.Words
 Ends r (cause.Table f) = Stopped r (cause.Table f)
 Ends r (cause.Script f) = Stopped r (cause.Script f)
@@ -114,3 +112,10 @@ InputCause before now _ = now ≡ before
 abbrev pub SinkCause : ℕ → ℕ → Cause → Type 0
 SinkCause before now cause.Sink = Counts 1 before now
 SinkCause before now _ = now ≡ before
+
+-- a run did its jobs, or wanted memory
+abbrev pub IsWell : Cause → Type 0
+IsWell cause.None = ⊤
+IsWell cause.Refused = ⊤
+IsWell cause.Memory = ⊤
+IsWell c = ⊥

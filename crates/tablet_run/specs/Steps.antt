@@ -26,7 +26,7 @@ StopsAt files name most limit (cause.Table f) = ⊥
 StopsAt files name most limit (cause.Script f) = ⊥
 StopsAt files name most limit (cause.Unbuilt n) = ⊥
 StopsAt files name most limit cause.Sink = ⊥
-StopsAt files name most limit cause.OtherSchema = ⊥
+StopsAt files name most limit (cause.OtherSchema t) = ⊥
 StopsAt files name most limit cause.Store = ⊥
 StopsAt files name most limit (cause.Damaged d) = ⊥
 

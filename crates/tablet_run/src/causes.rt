@@ -2,10 +2,11 @@ ghost use Rattle.std.specs.Prelude.{◌≡◌};
 ghost use Rattle.tablet_run.specs.Statuses.{cause_of, cause_status};
 
 use dev_traits::Damaged;
-use pk_values::Octets;
+use pk_values::{Octets, Schema};
 use reports::Ending;
 use schema_json::TableFault;
 use script_text::ScriptFault;
+use std::fmt::{Debug, Formatter, Write};
 use thiserror::Error;
 
 // A name as text.
@@ -25,6 +26,19 @@ fn accepted_table(fault: &TableFault) -> &'static str {
             "a column is {\"name\": TEXT, \"type\": TYPE}, with \"nullable\": true or false and \"default\": TEXT or null where they are wanted",
         _ =>
             "a table is {\"columns\": [COLUMN, ..], \"keys\": NUMBER}, and a COLUMN {\"name\": TEXT, \"type\": TYPE}, with \"nullable\": true or false and \"default\": TEXT or null where they are wanted",
+    }
+}
+
+/// The table of a store.
+#[derive(Drop)]
+pub struct StoredTable {
+    /// Its columns and key columns.
+    pub schema: Schema,
+}
+
+impl Debug for StoredTable {
+    fn fmt<W: Write>(&self, f: &mut Formatter<W>) -> std::fmt::Result {
+        f.write_str("StoredTable")
     }
 }
 
@@ -55,9 +69,9 @@ pub enum Cause {
     /// The job of this number, counted from 1, is not built yet: it is no `load`, `scan` or `stat`, or not in lane 1.
     #[error("job {0} is of a kind that is not built yet: `load`, `scan` and `stat` are, in lane 1")]
     Unbuilt(u64),
-    /// The store's table is not the one that the words name.
+    /// The store's table is not the one that the words name, but this one.
     #[error("the store holds another table than the one of the table's file")]
-    OtherSchema,
+    OtherSchema(StoredTable),
     /// The store failed under a job, or was closed by such a fault.
     #[error("the store failed, as the report tells")]
     Store,
@@ -84,7 +98,7 @@ impl Cause {
             Cause::None => 0,
             Cause::Refused => 1,
             Cause::Words | Cause::Table(_) | Cause::Script(_) => 2,
-            Cause::Unbuilt(_) | Cause::OtherSchema => 2,
+            Cause::Unbuilt(_) | Cause::OtherSchema(_) => 2,
             Cause::Missing(_) | Cause::InputFault(_) | Cause::TooLarge { .. } => 3,
             Cause::Store => 4,
             Cause::Damaged(_) => 5,
@@ -107,13 +121,15 @@ pub fn cause_of(ending: Ending) -> Cause
     }
 }
 
-/// How a run ended.
+/// How a run ended, and the store that it left.
 #[derive(Drop)]
-pub struct Ended {
+pub struct Ended<S: Drop> {
     /// The exit status that the cause has: 0 where each job was done, 1 where one was refused, 2 for words, a table or a script that are not of
     /// their form or not built yet and for a store of another table, 3 for an input, 4 for a fault of the store, 5 for damage, 6 for the sink,
     /// 7 for memory.
     pub status: u8,
     /// Why it ended so.
     pub cause: Cause,
+    /// The store that was handed in, as the run left it.
+    pub store: S,
 }

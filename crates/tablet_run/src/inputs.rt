@@ -1,4 +1,4 @@
-ghost use Rattle.std.specs.Prelude.{◌≡◌, ◌<◌, ◌≤◌, ◌^◌, ◌+◌, ◌++◌, ◌∷◌, [], ℕ, Option, Ok, None, length, option_map, IfOk, IfErr, OnOk};
+ghost use Rattle.std.specs.Prelude.{◌≡◌, ◌<◌, ◌≤◌, ◌^◌, ◌+◌, ◌++◌, ◌∷◌, [], ℕ, Option, Ok, None, length, option_map, IfOk, IfErr, OnOk, true};
 ghost use Rattle.std.specs.List.{AllByRecursion};
 ghost use Rattle.command_line.specs.Words.{texts};
 ghost use Rattle.dev_traits.specs.Streams.{Files};
@@ -326,6 +326,7 @@ pub fn find_jobs<'a, I: Inputs>(
     ensures asked { IfOk result (λ asked. HasFiled (I.files inputs.old) (texts words.entry.now) asked.schema asked.jobs.items) }
     ensures few { IfOk result (λ asked. length asked.jobs.items ≤ 4096) }
     ensures within { IfOk result (λ asked. AllByRecursion HasFewBytes asked.jobs.items) }
+    ensures built { IfOk result (λ asked. AllByRecursion (λ j. is_built j.job ≡ true) asked.jobs.items) }
     ensures phases { IfOk result (λ asked. PhasesRise asked.jobs.items) }
     ensures stopped { IfErr result (Stops (I.files inputs.old) (texts words.entry.now)) }
     ensures cause { StepCause (I.faults inputs.old) (I.faults inputs.new) result }

@@ -3,10 +3,13 @@
 
 mod causes;
 mod inputs;
+mod lanes;
 mod laws;
+mod opening;
 mod runs;
+mod scanning;
 mod streams;
 
-pub use causes::{Cause, Ended};
+pub use causes::{Cause, Ended, StoredTable};
 pub use laws::stops;
 pub use runs::run;

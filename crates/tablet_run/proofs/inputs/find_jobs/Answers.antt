@@ -1,7 +1,7 @@
 use Rattle.std.proofs.Common.{◌≡◌, subst, arith, length}
 use Rattle.command_line.specs.Words.{texts}
 use Rattle.tablet_run.specs.Steps.{JobsStop}
-use Rattle.tablet_run.proofs.InputLaws.{few-filed, jobs-stop, phases-rise, same-count}
+use Rattle.tablet_run.proofs.InputLaws.{all-built, few-filed, jobs-stop, phases-rise, same-count}
 use Rattle.tablet_run.proofs.inputs.find_jobs.Goals as goal
 
 pub returns-in-Ok-read_files-clause-few : goal.returns-in-Ok-read_files-clause-few
@@ -32,3 +32,7 @@ returns-clause-stopped g c =
     c.in-Ok-plan_from.ensures.built
     (subst (λ f. JobsStop f plan.jobs c.in-Err-read_files.cause) c.find_texts.ensures.same
     (subst (λ js. JobsStop (g.I.Inputs.files c.find_texts.new.inputs) js c.in-Err-read_files.cause) c.as_slice.ensures c.in-Err-read_files.ensures.stopped))
+
+pub returns-in-Ok-read_files-clause-built : goal.returns-in-Ok-read_files-clause-built
+returns-in-Ok-read_files-clause-built g c =
+    all-built 1 c.in-Ok-plan_from.plan.jobs c.in-Ok-read_files.jobs.items (rw c.as_slice.ensures at c.in-Ok-read_files.ensures.filed.jobs_are) c.in-Ok-plan_from.ensures.built
