@@ -23,7 +23,8 @@ IsOpened r = ⊥
 
 -- the reply is that one, or want of memory where the version is kept
 abbrev pub IsOpeningOf : Option ℕ → Contents → Want → Reply → Type 0
-IsOpeningOf closed c want r = (r ≡ opening_of closed c want) ⊎ ((r ≡ reply.Memory) × IsOpened (opening_of closed c want))
+IsOpeningOf closed c want r =
+    (r ≡ opening_of closed c want) ⊎ ((r ≡ reply.Memory) × IsOpened (opening_of closed c want))
 
 -- the counts
 abbrev pub stat_of : Option ℕ → Contents → Reply

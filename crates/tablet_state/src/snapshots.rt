@@ -68,10 +68,12 @@ fn join_parts<R: SealedReader>(
     parts: &mut Vec<(Segment<R>, DelVector)>,
 ) -> Result<(), Memory>
     requires rise { Rises (map (λ g. g.number) (segments_of R.view segments.old.items)) }
-    requires there { AllByRecursion (λ f. IsSome (segment_of (segments_of R.view segments.old.items) f.file)) files.now }
+    requires there { AllByRecursion (λ f. IsSome (segment_of (segments_of R.view segments.old.items) f.file))
+        files.now }
     ensures joined { OnOk result ((before : List ListedFile)
         → ArePartsOf (segments_of R.view segments.old.items) before (map (seen R.view) parts.old.items)
-        → ArePartsOf (segments_of R.view segments.old.items) (before ++ files.now) (map (seen R.view) parts.new.items)) }
+        → ArePartsOf (segments_of R.view segments.old.items) (before ++ files.now)
+        (map (seen R.view) parts.new.items)) }
     ensures same { SameButReads (segments_of R.view segments.old.items) (segments_of R.view segments.new.items) }
 {
     for file in files {
@@ -124,7 +126,11 @@ impl<S: Store> State<S> {
         ensures are { IfOk result (λ parts. AreParts self.old.contents.schema (map (seen S.Reader.view) parts.items)) }
         ensures stands { IfOk result (λ parts. (b : Book) (m : Rows) → Has S.view self.old b
             → self.old.closed ≡ None → rows_at b v ≡ Some m
-            → IsSnapshotOf (record { version = v; schema = self.old.contents.schema; parts = map (seen S.Reader.view) parts.items }) m) }
+            → IsSnapshotOf (record {
+              version = v;
+              schema = self.old.contents.schema;
+              parts = map (seen S.Reader.view) parts.items;
+            }) m) }
         ensures unfailed { IfOk result (λ parts. fault_count (map (seen S.Reader.view) parts.items) ≡ 0) }
         ensures unread { IfOk result (λ parts. read_count (map (seen S.Reader.view) parts.items) ≡ 0) }
         ensures lends { Lends S.view self.old self.new }
@@ -165,7 +171,8 @@ impl<S: Store> State<S> {
     /// Takes a snapshot back, and counts the faults of its readers.
     pub fn give_back_snapshot(&mut self, snapshot: Snapshot<S::Reader>)
         ensures rests { Rests S.view self.old self.new }
-        ensures faults { faults_of S.view self.new ≡ min (faults_of S.view self.old + fault_count snapshot.parts) (2 ^ 64 - 1) }
+        ensures faults { faults_of S.view self.new
+            ≡ min (faults_of S.view self.old + fault_count snapshot.parts) (2 ^ 64 - 1) }
         ensures has { (b : Book) → Has S.view self.old b → Has S.view self.new b }
     {
         give_back_snapshot(&mut self.store, snapshot);
