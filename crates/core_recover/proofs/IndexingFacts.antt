@@ -137,7 +137,7 @@ no_index_among s xs ys zs old mid same against stored reads short =
 
 -- ---- in a loop over files
 
-take_got : {X : Type 0} (xs : List X) (i : ℕ) (x : X) → slice_get xs i ≡ Some x → take (i + 1) xs ≡ take i xs ++ x ∷ []
+pub take_got : {X : Type 0} (xs : List X) (i : ℕ) (x : X) → slice_get xs i ≡ Some x → take (i + 1) xs ≡ take i xs ++ x ∷ []
 take_got [] i x is = cc
 take_got (y ∷ xs) zero x is = ap (λ z. z ∷ []) (some_one y x is)
 take_got (y ∷ xs) (suc i) x is = let e : suc i + 1 ≡ suc (i + 1) = omega arith in ap (λ n. take n (y ∷ xs)) e ∙ ap (λ zs. y ∷ zs) (take_got xs i x is)
