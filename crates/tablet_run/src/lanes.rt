@@ -138,7 +138,7 @@ fn rows_told<S: Store>(
 fn scan_version<S: Store>(alloc: Global, state: &mut State<S>, want: Want, place: u64) -> Done
     ensures { (j : FiledJob) (n : ℕ) → j.job.act ≡ JobAct.Scan want
         → Does S.view j place state.old state.new (faults_beside S.view state.old n)
-            (faults_beside S.view state.new n) result }
+        (faults_beside S.view state.new n) result }
 {
     let (reply, opened) = open_version(alloc, state, want);
     match opened {
@@ -157,7 +157,7 @@ fn scan_version<S: Store>(alloc: Global, state: &mut State<S>, want: Want, place
 fn count_rows<S: Store>(state: &State<S>) -> Done
     ensures { (j : FiledJob) (n place : ℕ) → j.job.act ≡ JobAct.Stat
         → Does S.view j place state.now state.now (faults_beside S.view state.now n)
-            (faults_beside S.view state.now n) result }
+        (faults_beside S.view state.now n) result }
 {
     Done {
         turn: true,

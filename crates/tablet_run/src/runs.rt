@@ -116,8 +116,14 @@ fn serve<O: Sink, S: Store>(alloc: Global, asked: &Asked, out: &mut O, store: S)
     requires phases { PhasesRise asked.now.jobs.items }
     ensures ends { (files : Option Files) (words : List (List ℕ))
         → HasFiled files words asked.now.schema asked.now.jobs.items
-        → Ends (record { files = files; words = words; before = O.held out.old; now = O.held out.new;
-            store = S.view store; left = S.view result.store }) result.cause }
+        → Ends (record {
+          files = files;
+          words = words;
+          before = O.held out.old;
+          now = O.held out.new;
+          store = S.view store;
+          left = S.view result.store;
+        }) result.cause }
     ensures inputs { (count : ℕ) → InputCause count count result.cause }
     ensures sink { SinkCause (O.faults out.old) (O.faults out.new) result.cause }
     ensures honest { (S.view result.store).is_honest ≡ (S.view store).is_honest }
@@ -148,8 +154,14 @@ fn attempt<'a, I: Inputs, O: Sink, S: Store>(
     store: S,
 ) -> Left<S>
     ensures same { I.files inputs.new ≡ I.files inputs.old }
-    ensures ends { Ends (record { files = I.files inputs.old; words = texts words.entry.now; before = O.held out.old;
-        now = O.held out.new; store = S.view store; left = S.view result.store }) result.cause }
+    ensures ends { Ends (record {
+      files = I.files inputs.old;
+      words = texts words.entry.now;
+      before = O.held out.old;
+      now = O.held out.new;
+      store = S.view store;
+      left = S.view result.store;
+    }) result.cause }
     ensures inputs { InputCause (I.faults inputs.old) (I.faults inputs.new) result.cause }
     ensures sink { SinkCause (O.faults out.old) (O.faults out.new) result.cause }
     ensures honest { (S.view result.store).is_honest ≡ (S.view store).is_honest }
@@ -183,8 +195,14 @@ pub fn run<'a, I: Inputs, O: Sink, S: Store>(
 ) -> Ended<S>
     ensures same { I.files inputs.new ≡ I.files inputs.old }
     ensures status { result.status ≡ cause_status result.cause }
-    ensures ends { Ends (record { files = I.files inputs.old; words = texts words.entry.now; before = O.held out.old;
-        now = O.held out.new; store = S.view store; left = S.view result.store }) result.cause }
+    ensures ends { Ends (record {
+      files = I.files inputs.old;
+      words = texts words.entry.now;
+      before = O.held out.old;
+      now = O.held out.new;
+      store = S.view store;
+      left = S.view result.store;
+    }) result.cause }
     ensures inputs { InputCause (I.faults inputs.old) (I.faults inputs.new) result.cause }
     ensures sink { SinkCause (O.faults out.old) (O.faults out.new) result.cause }
     ensures honest { (S.view result.store).is_honest ≡ (S.view store).is_honest }
@@ -196,7 +214,7 @@ pub fn run<'a, I: Inputs, O: Sink, S: Store>(
         → HasFiled (Some files) (texts words.entry.now) s jobs
         → (b : Book) → Opens (S.view store) s b
         → (RoseBy 1 (I.faults inputs.old) (I.faults inputs.new) → ⊥)
-            → (RoseBy 1 (O.faults out.old) (O.faults out.new) → ⊥)
+        → (RoseBy 1 (O.faults out.old) (O.faults out.new) → ⊥)
         → (RoseBy 1 (S.view store).faults (S.view result.store).faults → ⊥) → IsWell result.cause }
 {
     let Left { cause, store } = attempt(alloc, words, inputs, out, store);
