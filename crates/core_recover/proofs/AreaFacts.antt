@@ -54,7 +54,6 @@ told_after u v before tells told = go v.seen (is_some v.seen) refl (tells ∙ ap
     go (Some image) t e f = (image, refl)
     go None t e f = cc
 
-
 blanked_same : (a : ℕ) (d i : Image) → Same d i → Blanked a d i
 blanked_same a d i same = subst (Blanked a d) (sym same) (record { elsewhere = record { areas = λ b other. refl; files = refl }; blank = inl refl })
 

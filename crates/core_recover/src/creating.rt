@@ -39,7 +39,11 @@ fn clear<S: Store>(store: &mut S) -> Result<(), Failed>
 }
 
 // Clears a store, and writes its first record.
-fn write_first<S: Store>(store: &mut S, journal: &mut Journal, first: &Draft) -> Result<(), OpenFault>
+fn write_first<S: Store>(
+    store: &mut S,
+    journal: &mut Journal,
+    first: &Draft,
+) -> Result<(), OpenFault>
     requires calls { 7 ≤ (S.view store.old).spare_calls }
     requires bytes { length first.now.body + 10 ≤ (S.view store.old).spare_bytes }
     requires start { IsStart journal.old }

@@ -112,7 +112,14 @@ pub fn index_of_live<R: SealedReader>(
 {
     let mut index = KeyIndex::new(alloc);
     for files in current.rowsets() {
-        index_files(alloc, schema, numbers, segments, files.as_slice(), &mut index)?;
+        index_files(
+            alloc,
+            schema,
+            numbers,
+            segments,
+            files.as_slice(),
+            &mut index,
+        )?;
     }
     Ok(index)
 }

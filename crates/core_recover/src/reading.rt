@@ -21,10 +21,10 @@ ghost use Rattle.core_recover.specs.Reading.{AreFiles, HasFiles, IsIndexed, IsRe
 ghost use Rattle.core_recover.specs.Replaying.{IsReplayed};
 ghost use Rattle.core_recover.specs.declared.faults.OpenFault.TheVariants as fault;
 
+use crate::OpenFault;
 use crate::indexing::index_of_live;
 use crate::naming::{has_many_files, name_files};
 use crate::replaying::{Replayed, replay};
-use crate::OpenFault;
 use dev_traits::{Damaged, Memory, Part, Shown, Store};
 use kept_versions::{KeptVersion, KeyIndex};
 use segment_read::Segment;
@@ -86,7 +86,11 @@ fn files_named(alloc: Global, replayed: &Replayed) -> Result<Vec<NamedFile>, Ope
 }
 
 // Attaches the files that kept versions name.
-fn attach_named<S: Store>(alloc: Global, store: &mut S, replayed: &Replayed) -> Result<Attached<S>, OpenFault>
+fn attach_named<S: Store>(
+    alloc: Global,
+    store: &mut S,
+    replayed: &Replayed,
+) -> Result<Attached<S>, OpenFault>
     ensures has { IfOk result (λ found. HasFiles replayed.now (segments_of S.Reader.view found.segments.items)) }
     ensures numbers { IfOk result (λ found. found.numbers.items ≡ numbers_in (segments_of S.Reader.view found.segments.items)) }
     ensures reads { Told (S.view store.old) (λ image. (stored : Files) → AreSegments replayed.now.schema stored (named replayed.now) image
@@ -120,7 +124,11 @@ pub struct Indexed<S: Store> {
 }
 
 // Attaches the files that kept versions name, and makes the index of the current one.
-fn read_files<S: Store>(alloc: Global, store: &mut S, replayed: &Replayed) -> Result<Indexed<S>, OpenFault>
+fn read_files<S: Store>(
+    alloc: Global,
+    store: &mut S,
+    replayed: &Replayed,
+) -> Result<Indexed<S>, OpenFault>
     ensures has { IfOk result (λ found. HasFiles replayed.now (segments_of S.Reader.view found.segments.items)) }
     ensures numbers { IfOk result (λ found. found.numbers.items ≡ numbers_in (segments_of S.Reader.view found.segments.items)) }
     ensures reads { Told (S.view store.old) (λ image. (stored : Files) → AreFiles replayed.now stored image
@@ -134,7 +142,13 @@ fn read_files<S: Store>(alloc: Global, store: &mut S, replayed: &Replayed) -> Re
         numbers,
         mut segments,
     } = attach_named(alloc, store, replayed)?;
-    match index_of_live(alloc, &replayed.schema, &numbers, &mut segments, &replayed.current) {
+    match index_of_live(
+        alloc,
+        &replayed.schema,
+        &numbers,
+        &mut segments,
+        &replayed.current,
+    ) {
         Ok(index) => Ok(Indexed {
             numbers,
             segments,

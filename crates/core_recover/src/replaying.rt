@@ -56,7 +56,12 @@ impl Replayed {
         }
     }
 
-    fn publish(&mut self, alloc: Global, files: &[NewFile], changed: &[DeadRows]) -> Result<(), Memory>
+    fn publish(
+        &mut self,
+        alloc: Global,
+        files: &[NewFile],
+        changed: &[DeadRows],
+    ) -> Result<(), Memory>
         requires fit { changes_fit 0 (files_of (published_rowsets files.now self.old.current)) changed.now ≡ true }
         requires below { all_below bound (numbers_of files.now) ≡ true }
         ensures { OnOk result (HasPublished files.now changed.now self.old self.new) }
@@ -80,7 +85,9 @@ impl Replayed {
         requires below { all_below bound (numbers_of files.now) ≡ true }
         ensures { OnOk result (HasCompacted replaced files.now changed.now self.old self.new) }
     {
-        self.current = self.current.after_compact(alloc, replaced as usize, files, changed)?;
+        self.current = self
+            .current
+            .after_compact(alloc, replaced as usize, files, changed)?;
         self.next_file = next_after(self.next_file, files);
         Ok(())
     }
