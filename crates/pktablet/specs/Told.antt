@@ -12,10 +12,11 @@ asks_alone [] = false
 asks_alone (word ∷ []) = is_some (asked_by word)
 asks_alone (a ∷ b ∷ words) = false
 
--- a run over the host's files, standard output and a folder, of which nothing is known but how many faults were counted: what it is given and
--- what it leaves
+-- a run over the host's files, standard output and a folder, of which nothing is known but how many faults were counted:
+-- what it is given and what it leaves
 abbrev pub on_host : List (List ℕ) → ℕ → Setting
-on_host words faults = record { files = None; words = words; before = None; now = None; store = silent_view 0; left = silent_view faults }
+on_host words faults =
+    record { files = None; words = words; before = None; now = None; store = silent_view 0; left = silent_view faults }
 
 -- how a run of these words ends there
 abbrev pub EndsOnHost : List (List ℕ) → Cause → Type 0
@@ -31,11 +32,13 @@ IsPrinted c = (c ≡ cause.None) ⊎ (c ≡ cause.Memory) ⊎ (c ≡ cause.Sink)
 
 -- how the program ends by its words: what a single word asks for is printed, and all else is a run
 abbrev pub EndsAs : List (List ℕ) → Cause → Type 0
-EndsAs words c = (IsPrinted c × ((c ≡ cause.None) → asks_alone words ≡ true)) ⊎ IsNotBegun c ⊎ ((asks_alone words ≡ false) × EndsOnHost words c)
+EndsAs words c = (IsPrinted c × ((c ≡ cause.None) → asks_alone words ≡ true)) ⊎ IsNotBegun c
+    ⊎ ((asks_alone words ≡ false) × EndsOnHost words c)
 
 -- the table's file or the script's, by why a run ended
 abbrev pub file_by : Cause → List ℕ → List ℕ → Option (List ℕ)
 file_by (cause.Table f) table script = Some table
+file_by (cause.OtherSchema t) table script = Some table
 file_by (cause.Script f) table script = Some script
 file_by (cause.Unbuilt n) table script = Some script
 file_by _ table script = None

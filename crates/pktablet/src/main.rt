@@ -21,7 +21,7 @@ const FOLDER: &str = "tablet";
 
 // How the program ends, and why.
 #[derive(Drop)]
-struct End {
+struct Exit {
     status: u8,
     cause: Cause,
 }
@@ -63,8 +63,9 @@ fn texts_of(alloc: Global, words: &[String]) -> Result<Vec<&str>, AllocError>
     Ok(found)
 }
 
-// Runs the words over the host's files, standard output and the tablet's folder, and removes the files that the tablet has no more.
-fn run_on_host(rt: &HostRuntime, words: &[String]) -> io::Result<End>
+// Runs the words over the host's files, standard output and the tablet's folder, and removes the files that the tablet
+// has no more.
+fn run_on_host(rt: &HostRuntime, words: &[String]) -> io::Result<Exit>
     ensures status { IfOk result (λ ended. ended.status ≡ cause_status ended.cause) }
     ensures ends { IfOk result (λ ended. EndsOnHost (map string_bytes words.now) ended.cause) }
 {
@@ -79,11 +80,11 @@ fn run_on_host(rt: &HostRuntime, words: &[String]) -> io::Result<End>
         store,
     } = run(alloc, texts.as_slice(), &mut inputs, &mut out, store);
     store.sweep();
-    Ok(End { status, cause })
+    Ok(Exit { status, cause })
 }
 
 // How a run ended that did not come to its words.
-fn not_begun(error: &io::Error) -> End
+fn not_begun(error: &io::Error) -> Exit
     ensures status { result.status ≡ cause_status result.cause }
     ensures told { IsNotBegun result.cause }
 {
@@ -91,7 +92,7 @@ fn not_begun(error: &io::Error) -> End
         ErrorKind::OutOfMemory => Cause::Memory,
         _ => Cause::Words,
     };
-    End {
+    Exit {
         status: cause.status(),
         cause,
     }
@@ -105,7 +106,7 @@ fn file_of<'a>(cause: &Cause, words: &'a [String]) -> Option<&'a str>
         return None;
     };
     match cause {
-        Cause::Table(_) => Some(table.as_str()),
+        Cause::Table(_) | Cause::OtherSchema(_) => Some(table.as_str()),
         Cause::Script(_) | Cause::Unbuilt(_) => Some(script.as_str()),
         _ => None,
     }
@@ -138,12 +139,12 @@ fn printed(answered: io::Result<bool>) -> Option<Cause>
 }
 
 // Does what the words ask for.
-fn attempt(rt: &HostRuntime, words: &[String]) -> End
+fn attempt(rt: &HostRuntime, words: &[String]) -> Exit
     ensures status { result.status ≡ cause_status result.cause }
     ensures ends { EndsAs (map string_bytes words.now) result.cause }
 {
     match printed(answer_word(rt, words)) {
-        Some(cause) => End {
+        Some(cause) => Exit {
             status: cause.status(),
             cause,
         },
@@ -155,7 +156,7 @@ fn attempt(rt: &HostRuntime, words: &[String]) -> End
 }
 
 // Explains why a run went wrong, and gives the exit status that it has.
-fn end(rt: &HostRuntime, ended: &End, words: &[String]) -> ExitCode
+fn end(rt: &HostRuntime, ended: &Exit, words: &[String]) -> ExitCode
     ensures { exit_status result ≡ ended.now.status }
 {
     if ended.status > 1 {
