@@ -8,13 +8,23 @@ ghost use Rattle.tablet_run.specs.Statuses.{cause_status};
 ghost use Rattle.pktablet.specs.Told.{EndsAs, EndsOnHost, IsNotBegun, IsPrinted, asks_alone, file_told};
 
 use command_line::text_for;
-use dev_host::{HostInputs, HostSink};
+use dev_host::{HostInputs, HostSink, HostStore};
 use std::alloc::{AllocError, Global};
 use std::env::Env;
 use std::io::ErrorKind;
 use std::process::ExitCode;
 use std::{env, io};
 use tablet_run::{Cause, Ended, run};
+
+// The folder of the tablet, in the folder where the program runs.
+const FOLDER: &str = "tablet";
+
+// How the program ends, and why.
+#[derive(Drop)]
+struct Exit {
+    status: u8,
+    cause: Cause,
+}
 
 // The words after the program's name.
 fn words_after_name(rt: &(impl Env + AllocGlobal)) -> io::Result<Vec<String>> {
@@ -53,8 +63,9 @@ fn texts_of(alloc: Global, words: &[String]) -> Result<Vec<&str>, AllocError>
     Ok(found)
 }
 
-// Runs the words over the host's files and standard output.
-fn run_on_host(rt: &HostRuntime, words: &[String]) -> io::Result<Ended>
+// Runs the words over the host's files, standard output and the tablet's folder, and removes the files that the tablet
+// has no more.
+fn run_on_host(rt: &HostRuntime, words: &[String]) -> io::Result<Exit>
     ensures status { IfOk result (λ ended. ended.status ≡ cause_status ended.cause) }
     ensures ends { IfOk result (λ ended. EndsOnHost (map string_bytes words.now) ended.cause) }
 {
@@ -62,11 +73,18 @@ fn run_on_host(rt: &HostRuntime, words: &[String]) -> io::Result<Ended>
     let texts = texts_of(alloc, words)?;
     let mut inputs = HostInputs::new(rt.clone()?);
     let mut out = HostSink::new(rt.clone()?);
-    Ok(run(alloc, texts.as_slice(), &mut inputs, &mut out))
+    let store = HostStore::new(rt.clone()?, FOLDER)?;
+    let Ended {
+        status,
+        cause,
+        store,
+    } = run(alloc, texts.as_slice(), &mut inputs, &mut out, store);
+    store.sweep();
+    Ok(Exit { status, cause })
 }
 
 // How a run ended that did not come to its words.
-fn not_begun(error: &io::Error) -> Ended
+fn not_begun(error: &io::Error) -> Exit
     ensures status { result.status ≡ cause_status result.cause }
     ensures told { IsNotBegun result.cause }
 {
@@ -74,7 +92,7 @@ fn not_begun(error: &io::Error) -> Ended
         ErrorKind::OutOfMemory => Cause::Memory,
         _ => Cause::Words,
     };
-    Ended {
+    Exit {
         status: cause.status(),
         cause,
     }
@@ -88,7 +106,7 @@ fn file_of<'a>(cause: &Cause, words: &'a [String]) -> Option<&'a str>
         return None;
     };
     match cause {
-        Cause::Table(_) => Some(table.as_str()),
+        Cause::Table(_) | Cause::OtherSchema(_) => Some(table.as_str()),
         Cause::Script(_) | Cause::Unbuilt(_) => Some(script.as_str()),
         _ => None,
     }
@@ -121,12 +139,12 @@ fn printed(answered: io::Result<bool>) -> Option<Cause>
 }
 
 // Does what the words ask for.
-fn attempt(rt: &HostRuntime, words: &[String]) -> Ended
+fn attempt(rt: &HostRuntime, words: &[String]) -> Exit
     ensures status { result.status ≡ cause_status result.cause }
     ensures ends { EndsAs (map string_bytes words.now) result.cause }
 {
     match printed(answer_word(rt, words)) {
-        Some(cause) => Ended {
+        Some(cause) => Exit {
             status: cause.status(),
             cause,
         },
@@ -138,7 +156,7 @@ fn attempt(rt: &HostRuntime, words: &[String]) -> Ended
 }
 
 // Explains why a run went wrong, and gives the exit status that it has.
-fn end(rt: &HostRuntime, ended: &Ended, words: &[String]) -> ExitCode
+fn end(rt: &HostRuntime, ended: &Exit, words: &[String]) -> ExitCode
     ensures { exit_status result ≡ ended.now.status }
 {
     if ended.status > 1 {

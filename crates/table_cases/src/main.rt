@@ -88,6 +88,8 @@ impl Desk {
             "no-a" => self.runs.forget(alloc),
             "fails" => self.runs.fails(alloc, words),
             "run" => self.runs.run(alloc, words),
+            "again" => self.runs.again(alloc, words),
+            "spoil" => self.runs.spoil(alloc, words),
             _ => self.read(alloc, call, words),
         }
     }

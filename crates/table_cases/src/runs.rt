@@ -1,11 +1,12 @@
 use case_texts::text_of;
 use command_line::{WordsFault, read_words, text_for};
-use dev_memory::{MemInputs, MemSink};
+use dev_memory::{Faults, Image, MemInputs, MemSink, MemStore};
 use pk_values::Octets;
 use std::alloc::{AllocError, Global};
 use tablet_run::run;
 
-/// What the inputs `t`, `s` and `a` hold, which of their takes and which puts fail, and why the last run ended.
+/// What the inputs `t`, `s` and `a` hold, which takes, puts and calls of the store fail, why the last run ended, and its
+/// store.
 #[derive(Drop)]
 pub struct Runs {
     table: Vec<u8>,
@@ -13,7 +14,9 @@ pub struct Runs {
     file: Option<Vec<u8>>,
     input_fails: Vec<u64>,
     put_fails: Vec<u64>,
+    faults: Faults,
     cause: String,
+    store: Option<MemStore>,
 }
 
 fn entry(alloc: Global, name: &str, bytes: &[u8]) -> Result<(Octets, Octets), AllocError> {
@@ -30,7 +33,9 @@ impl Runs {
             file: None,
             input_fails: Vec::new(alloc),
             put_fails: Vec::new(alloc),
+            faults: Faults::none(alloc),
             cause: String::new(alloc),
+            store: None,
         }
     }
 
@@ -56,22 +61,24 @@ impl Runs {
         "gone".to_string(alloc)
     }
 
-    /// `fails take NUMBER`, `fails put NUMBER` and `fails none`: which call fails.
+    /// `fails take NUMBER`, `fails put NUMBER`, `fails store NUMBER`, `fails maker NUMBER`, `fails reader NUMBER`, `fails
+    /// stop NUMBER` and `fails none`: which call fails, or from which call of the store on each does.
     pub fn fails(&mut self, alloc: Global, words: &str) -> Result<String, AllocError> {
         let (call, number) = words.split_once(' ').unwrap_or((words, ""));
         match (call, number.parse::<u64>()) {
             ("take", Ok(number)) => self.input_fails.push(number)?,
             ("put", Ok(number)) => self.put_fails.push(number)?,
+            ("store", Ok(number)) => self.faults.store.push(number)?,
+            ("maker", Ok(number)) => self.faults.maker.push(number)?,
+            ("reader", Ok(number)) => self.faults.reader.push(number)?,
+            ("stop", Ok(number)) => self.faults.stop = Some(number),
             _ => {
                 self.input_fails.clear();
                 self.put_fails.clear();
+                self.faults = Faults::none(alloc);
             }
         }
-        format!(in alloc;
-            "{:?} {:?}",
-            self.input_fails.as_slice(),
-            self.put_fails.as_slice()
-        )
+        words.to_string(alloc)
     }
 
     fn inputs(&self, alloc: Global) -> Result<MemInputs, AllocError> {
@@ -85,16 +92,71 @@ impl Runs {
         MemInputs::new(alloc, files, fails)
     }
 
-    /// `run WORDS`: the status of a run of these words over the inputs, and what was put into a sink that
-    /// takes four bytes a put.
-    pub fn run(&mut self, alloc: Global, words: &str) -> Result<String, AllocError> {
+    // Which calls of a store are to fail.
+    fn faults(&self, alloc: Global) -> Result<Faults, AllocError> {
+        Ok(Faults {
+            store: Vec::from_slice(alloc, &self.faults.store)?,
+            maker: Vec::from_slice(alloc, &self.faults.maker)?,
+            reader: Vec::from_slice(alloc, &self.faults.reader)?,
+            stop: self.faults.stop,
+        })
+    }
+
+    // Runs words over a store, with a sink that takes four bytes a put.
+    fn run_over(
+        &mut self,
+        alloc: Global,
+        words: &str,
+        store: MemStore,
+    ) -> Result<String, AllocError> {
         let words: Vec<&str> = words.split(' ').collect(alloc)?;
         let mut inputs = self.inputs(alloc)?;
         let mut out = MemSink::new(alloc, 4, Vec::from_slice(alloc, &self.put_fails)?);
-        let ended = run(alloc, &words, &mut inputs, &mut out);
+        let ended = run(alloc, &words, &mut inputs, &mut out, store);
         self.cause = format!(in alloc; "{}", ended.cause)?;
+        self.store = Some(ended.store);
         let put = text_of(alloc, out.written())?;
         format!(in alloc; "{} {put}", ended.status)
+    }
+
+    /// `run WORDS`: the status of a run of these words over the inputs and a new store, and what was put.
+    pub fn run(&mut self, alloc: Global, words: &str) -> Result<String, AllocError> {
+        let store = MemStore::new(alloc, self.faults(alloc)?)?;
+        self.run_over(alloc, words, store)
+    }
+
+    // The image of this number that a crash may leave of the last run's store, with the faults that are listed now.
+    fn image(&self, alloc: Global, pick: u64) -> Result<MemStore, AllocError> {
+        match &self.store {
+            Some(store) => MemStore::of_image(
+                alloc,
+                store.image(alloc, pick)?,
+                self.faults(alloc)?,
+            ),
+            None => MemStore::new(alloc, self.faults(alloc)?),
+        }
+    }
+
+    /// `again PICK WORDS`: the same over an image that a crash may leave of the last run's store, by its number.
+    pub fn again(&mut self, alloc: Global, words: &str) -> Result<String, AllocError> {
+        let (pick, words) = words.split_once(' ').unwrap_or(("0", words));
+        let store = self.image(alloc, pick.parse::<u64>().unwrap_or(0))?;
+        self.run_over(alloc, words, store)
+    }
+
+    /// `spoil FILE AT BYTE`: changes a byte of a file of the last run's store.
+    pub fn spoil(&mut self, alloc: Global, words: &str) -> Result<String, AllocError> {
+        let numbers: Vec<u64> = words
+            .split(' ')
+            .map(|word| word.parse::<u64>().unwrap_or(0))
+            .collect(alloc)?;
+        match (&mut self.store, numbers.as_slice()) {
+            (Some(store), [file, at, byte]) => format!(in alloc;
+                "{}",
+                store.spoil(*file, *at, (*byte % 256) as u8)?
+            ),
+            _ => "no store".to_string(alloc),
+        }
     }
 
     /// `cause TEXT`: whether the cause of the last run begins so.
