@@ -73,10 +73,10 @@ pub enum Cause {
     #[error("the store holds another table than the one of the table's file")]
     OtherSchema(StoredTable),
     /// The store failed under a job, or was closed by such a fault.
-    #[error("the store failed, as the report tells")]
+    #[error("the store failed")]
     Store,
     /// A job met this damage in the store.
-    #[error("the store is damaged, as the report tells")]
+    #[error("the store is damaged")]
     Damaged(Damaged),
     /// A put failed.
     #[error("the report could not be written")]
@@ -84,8 +84,8 @@ pub enum Cause {
     /// Memory was wanting.
     #[error("there was not enough memory")]
     Memory,
-    /// Some job was refused, as the report tells.
-    #[error("a job was refused, as the report tells")]
+    /// Some job was refused.
+    #[error("a job was refused")]
     Refused,
 }
 
