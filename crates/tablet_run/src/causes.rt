@@ -84,8 +84,8 @@ pub enum Cause {
     /// Memory was wanting.
     #[error("there was not enough memory")]
     Memory,
-    /// Some job was refused.
-    #[error("a job was refused")]
+    /// Some job was refused, as the report tells.
+    #[error("a job was refused, as the report tells")]
     Refused,
 }
 
