@@ -144,3 +144,7 @@ module _ {R : Type 0} (view : R → ReaderView) (s : Layout) (v : View) where
 pub faults_alike : {R : Type 0} (view : R → ReaderView) (segs : List (Segment R)) → faults_in view segs ≡ reader_faults (segments_of view segs)
 faults_alike view [] = refl
 faults_alike view (g ∷ segs) = ap (λ (n : ℕ). (view g.reader).faults + n) (faults_alike view segs)
+
+pub numbers_seen : {R : Type 0} (view : R → ReaderView) (segs : List (Segment R)) → map (λ (g : Segment R). g.number) segs ≡ numbers_in (segments_of view segs)
+numbers_seen view [] = refl
+numbers_seen view (g ∷ segs) = ap (λ (ns : List ℕ). g.number ∷ ns) (numbers_seen view segs)

@@ -1,5 +1,5 @@
 -- What reading a store answers, by what stands there.
-use Rattle.std.proofs.Common.{◌≡◌, ◌⊎◌, inl, inr, refl, ap, sym, subst, ◌∙◌, ℕ, List, [], ◌∷◌, map, Option, Some, None, Result, Ok, Err, IfOk, IfErr, OnOk, IsErrOf, arith}
+use Rattle.std.proofs.Common.{◌≡◌, ◌⊎◌, inl, inr, refl, ap, sym, subst, ◌∙◌, ℕ, List, [], ◌∷◌, map, Option, Some, None, Result, Ok, Err, IfOk, IfErr, OnOk, IsErrOf, Bool, IsTrue, ◌+◌, ◌-◌, ◌^◌, min, arith}
 use Rattle.std.specs.FinMap.{empty}
 use Rattle.std.specs.List.{AllByRecursion}
 use Rattle.pk_values.specs.Schemas.{Layout}
@@ -18,6 +18,7 @@ use Rattle.journal_form.specs.declared.records.ListedFile.{ListedFile}
 use Rattle.journal_form.specs.Meaning.{Standing}
 use Rattle.journal_form.specs.Versions.{files_of}
 use Rattle.journal_form.proofs.Parts.{some_is}
+use Rattle.gated_log.specs.Log.{IsSettled}
 use Rattle.segment_read.specs.Reads.{OnDamage}
 use Rattle.version_journal.specs.Images.{HasNoRecord, IsSaid, Says}
 use Rattle.version_journal.specs.Journals.{ReadsAs}
@@ -167,3 +168,28 @@ files_same r old new same unfailed has =
       only = only_same (named r) old new numbers has.only;
       unfailed = unfailed;
     }
+
+-- ---- readers that went back
+
+pub cause_memory : {T U : Type 0} (old mid new k : ℕ) (x : T) → HasReadCause old mid (Ok x) → Counts k mid new → k ≡ 0 → HasCauseOf {T = U} fault.StoreFault old new (Err fault.Memory)
+cause_memory old mid new k x cause counts none =
+    let same = cause.well (λ is. no_err x read.StoreFault is) in
+    record { well = λ not. omega arith; failed = λ is. absurd (apart (err_inner fault.Memory fault.StoreFault is)) }
+  where
+    apart : fault.Memory ≡ fault.StoreFault → ⊥
+    apart e = cc
+
+pub cause_given_back : {T U : Type 0} (old mid new k : ℕ) (e : ReadFault) → mid ≡ old → HasReadCause {T = T} 0 k (Err e) → Counts k mid new → HasCauseOf {T = U} fault.StoreFault old new (Err (of_read e))
+cause_given_back old mid new k e same cause counts = record {
+  well = λ not. let none = cause.well (λ is. not (ap Err (ap of_read (err_inner e read.StoreFault is)))) in omega arith;
+  failed = λ is. let one = cause.failed (ap Err (failed_read e (err_inner (of_read e) fault.StoreFault is))) in omega arith;
+}
+
+pub well_opened : {T : Type 0} (old new : ℕ) (x : T) → HasCauseOf {E = OpenFault} fault.StoreFault old new (Ok x) → new ≡ old
+well_opened old new x cause = cause.well (λ is. no_err x fault.StoreFault is)
+
+pub settled_calm : (u v : View) (area end : ℕ) (bodies : List (List ℕ)) → Calm u v → IsSettled area bodies end u → IsSettled area bodies end v
+settled_calm u v area end bodies calm settled = record {
+  honest = subst (λ (b : Bool). IsTrue b) (sym calm.honest) settled.honest;
+  each = λ left may. settled.each left ((calm.now left).0 may);
+}
