@@ -9,7 +9,7 @@ use Rattle.core_recover.proofs.NamingFacts.{at_index}
 use Rattle.core_recover.proofs.reading.have_few_files.Goals as goal
 
 few_of : (v : List ListedRowset) (b : Bool) → b ≡ nat_le most_files (length (files_of v)) → b ≡ false → HasFewFiles v
-few_of v b is no = leb-false most_files (length (files_of v)) (sym is ∙ no)
+few_of v b is below = leb-false most_files (length (files_of v)) (sym is ∙ below)
 
 pub loop-version-preserved : goal.loop-version-preserved
 loop-version-preserved c =
