@@ -14,7 +14,7 @@ use Rattle.core_recover.proofs.TabletFacts.{cause_memory, want_read}
 use Rattle.core_recover.proofs.reading.attach_named.Goals as goal
 
 pub returns-in_err-segments-clause-intact : goal.returns-in_err-segments-clause-intact
-returns-in_err-segments-clause-intact g c = 
+returns-in_err-segments-clause-intact g c =
     let p = err_from_is_err_and c.from_residual-in_err-segments.result c.from_residual-in_err-segments.ensures.1 in
     rw (p.1, p.2) (λ image told stored are.
     want_read c.in_err-segments.field-0.0
@@ -22,7 +22,7 @@ returns-in_err-segments-clause-intact g c =
     (λ d none. none image told stored (all_stored c.args.replayed.now.schema stored (named c.args.replayed.now) c.deref.result.now image are (subst (AreNamed (named c.args.replayed.now)) (sym c.deref.ensures.value) c.in_ok-files.ensures.named).only)) c.in_err-segments.ensures.intact))
 
 pub returns-in-Ok-clause-has : goal.returns-in-Ok-clause-has
-returns-in-Ok-clause-has g c = 
+returns-in-Ok-clause-has g c =
     has_files g.S.Reader.SealedReader.view c.args.replayed.now.schema (g.S.Store.view c.args.store.now) c.args.replayed.now c.deref.result.now c.in_ok-segments.segments.items refl c.keys-keys.ensures.valid c.in_ok-files.ensures.few (subst (AreNamed (named c.args.replayed.now)) (sym c.deref.ensures.value) c.in_ok-files.ensures.named) c.in_ok-segments.ensures.attached
     (subst (AllByRecursion (λ s. IsTrue (is_footer s.footer))) c.deref-2.ensures.value c.in-Ok.ensures.footers)
 
@@ -33,5 +33,5 @@ pub returns-in-Ok-clause-reads : goal.returns-in-Ok-clause-reads
 returns-in-Ok-clause-reads g c = λ image told stored are. reads_files g.S.Reader.SealedReader.view c.args.replayed.now.schema (g.S.Store.view c.args.store.now) stored (named c.args.replayed.now) c.deref.result.now c.in_ok-segments.segments.items image told are (subst (AreNamed (named c.args.replayed.now)) (sym c.deref.ensures.value) c.in_ok-files.ensures.named) c.in_ok-segments.ensures.attached
 
 pub returns-clause-cause : goal.returns-clause-cause
-returns-clause-cause g c = 
+returns-clause-cause g c =
     cause_memory _ _ _ _ c.in_ok-segments.segments c.in_ok-segments.ensures.cause c.give_back_all.ensures.counts (none_failed g.S.Reader.SealedReader.view c.args.replayed.now.schema (g.S.Store.view c.args.store.now) c.deref.result.now c.in_ok-segments.segments.items c.in_ok-segments.ensures.attached)

@@ -11,12 +11,12 @@ use Rattle.core_recover.proofs.TabletFacts.{cause_given_back, files_read_same, f
 use Rattle.core_recover.proofs.reading.read_files.Goals as goal
 
 pub returns-in_err-numbers-clause-intact : goal.returns-in_err-numbers-clause-intact
-returns-in_err-numbers-clause-intact g c = 
+returns-in_err-numbers-clause-intact g c =
     let p = err_from_is_err_and c.from_residual.result c.from_residual.ensures.1 in
     rw (p.1, p.2) (λ image told stored are. c.in_err-numbers.ensures.intact image told stored are.segments)
 
 pub returns-in-Ok-clause-has : goal.returns-in-Ok-clause-has
-returns-in-Ok-clause-has g c = 
+returns-in-Ok-clause-has g c =
     files_same c.args.replayed.now (segments_of g.S.Reader.SealedReader.view c.in_ok-numbers.field-0.segments.items) (segments_of g.S.Reader.SealedReader.view c.index_of_live.new.segments.items) c.index_of_live.ensures.same (well_zero (segments_of g.S.Reader.SealedReader.view c.in_ok-numbers.field-0.segments.items) (segments_of g.S.Reader.SealedReader.view c.index_of_live.new.segments.items) c.in-Ok.index c.in-Ok.ensures.cause c.in_ok-numbers.ensures.has.unfailed) c.in_ok-numbers.ensures.has
 
 pub returns-in-Ok-clause-numbers : goal.returns-in-Ok-clause-numbers
@@ -34,7 +34,7 @@ returns-in-Err-clause-intact g c = λ image told stored are.
     (want_read c.in-Err.fault (on_damage c.in-Err.fault (λ d. HasNoIndex c.args.replayed.now.schema (files_of c.args.replayed.now.current) (segments_of g.S.Reader.SealedReader.view c.in_ok-numbers.field-0.segments.items)) (λ d. ⊥) (λ d none. index_whole c.args.replayed.now stored image (segments_of g.S.Reader.SealedReader.view c.in_ok-numbers.field-0.segments.items) are reads none) c.in-Err.ensures.intact))
 
 pub returns-in-Err-clause-cause : goal.returns-in-Err-clause-cause
-returns-in-Err-clause-cause g c = 
+returns-in-Err-clause-cause g c =
     rw c.from.ensures
     (cause_given_back _ _ _ _ c.in-Err.fault (well_opened _ _ c.in_ok-numbers.field-0 c.in_ok-numbers.ensures.cause) (c.in-Err.ensures.cause c.in_ok-numbers.ensures.has.unfailed)
     (subst (λ (n : ℕ). Counts n (g.S.Store.view c.attach_named.new.store).faults (g.S.Store.view c.give_back_all.new.store).faults) (faults_alike g.S.Reader.SealedReader.view c.index_of_live.new.segments.items) c.give_back_all.ensures.counts))

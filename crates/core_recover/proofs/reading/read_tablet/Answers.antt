@@ -7,20 +7,20 @@ use Rattle.core_recover.proofs.TabletFacts.{empty_journal, none_undamaged, one_s
 use Rattle.core_recover.proofs.reading.read_tablet.Goals as goal
 
 pub returns-in_err-journal-clause-intact : goal.returns-in_err-journal-clause-intact
-returns-in_err-journal-clause-intact g c = 
+returns-in_err-journal-clause-intact g c =
     let p = err_from_is_err_and c.from_residual.result c.from_residual.ensures.1 in
     rw (p.1, p.2) (λ image told s b stands.
     want_journal c.in_err-journal.field-0.0 (λ e. some_record image stands.standing stands.meant (c.in_err-journal.ensures.empty (ap Err e) image told))
     (λ d e. let w = c.in_err-journal.ensures.damaged d e in stands_undamaged w.0 image s b stands (w.2 image told)))
 
 pub returns-in_err-journal-clause-only_empty : goal.returns-in_err-journal-clause-only_empty
-returns-in_err-journal-clause-only_empty g c = 
+returns-in_err-journal-clause-only_empty g c =
     let p = err_from_is_err_and c.from_residual.result c.from_residual.ensures.1 in
     rw (p.1, p.2) (λ image told none.
     empty_journal c.in_err-journal.field-0.0 (λ d e. let w = c.in_err-journal.ensures.damaged d e in none_undamaged w.0 image none (w.2 image told)))
 
 pub returns-in_err-files-clause-intact : goal.returns-in_err-files-clause-intact
-returns-in_err-files-clause-intact g c = 
+returns-in_err-files-clause-intact g c =
     let p = err_from_is_err_and c.from_residual-in_err-files.result c.from_residual-in_err-files.ensures.1 in
     rw (p.1, p.2) (λ image told s b stands. c.in_err-files.ensures.intact image (c.read_records.ensures.calm.seen ∙ told) stands.stored (files_there c.in_ok-replayed.replayed s b image stands (subst (IsReplayed c.in_ok-replayed.replayed) (one_standing image c.in_ok-journal.ensures.means.0 c.in_ok-journal.field-0.journal s b stands (c.in_ok-journal.ensures.read c.in_ok-journal.ensures.means.0 c.in_ok-journal.ensures.means.1 image told)) (c.in_ok-replayed.ensures c.in_ok-journal.ensures.means.0 c.in_ok-journal.ensures.means.1))))
 
