@@ -11,5 +11,3 @@ pub mod Listing
 pub mod Making
 pub mod Reading
 pub mod Reads
-pub mod Seeking
-pub mod Wholes
