@@ -86,15 +86,23 @@ fn told(alloc: Global, dead: &DelVector) -> Result<String, AllocError> {
     }
 }
 
+fn with_itself(alloc: Global, dead: &DelVector) -> Result<Option<DelVector>, AllocError> {
+    let rows = dead.rows(alloc)?;
+    Ok(Some(dead.with(alloc, &rows)?))
+}
+
+fn changed(alloc: Global, dead: &DelVector, words: &str) -> Result<Option<DelVector>, AllocError> {
+    match words {
+        "none" => Ok(Some(DelVector::empty())),
+        "again" => with_itself(alloc, dead),
+        _ => united(alloc, dead, words),
+    }
+}
+
 /// `dead none`: no row is dead. `dead again`, `dead even`, `dead FIRST to LAST` and `dead ROW,ROW..`: the rows that are
 /// dead, and these.
 pub fn dead(alloc: Global, dead: &mut DelVector, words: &str) -> Result<String, AllocError> {
-    let now = match words {
-        "none" => Some(DelVector::empty()),
-        "again" => Some(dead.with(alloc, &dead.rows(alloc)?)?),
-        _ => united(alloc, dead, words)?,
-    };
-    match now {
+    match changed(alloc, dead, words)? {
         Some(now) => {
             *dead = now;
             told(alloc, dead)

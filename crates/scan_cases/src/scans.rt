@@ -24,7 +24,7 @@ enum Given {
     Fault(ReadFault),
 }
 
-fn given<R: SealedReader>(alloc: Global, scan: &mut Scan<R>) -> Given {
+fn asked<R: SealedReader>(alloc: Global, scan: &mut Scan<R>) -> Given {
     match scan.next_row(alloc) {
         Ok(Some(row)) => Given::Row(row),
         Ok(None) => Given::End,
@@ -66,12 +66,12 @@ fn come<R: SealedReader>(
 ) -> Result<(Vec<Row>, Given), AllocError> {
     let mut rows = Vec::new(alloc);
     for _ in 0..count {
-        match given(alloc, scan) {
+        match asked(alloc, scan) {
             Given::Row(row) => rows.push(row)?,
             other => return Ok((rows, other)),
         }
     }
-    Ok((rows, given(alloc, scan)))
+    Ok((rows, asked(alloc, scan)))
 }
 
 fn ends_text(alloc: Global, rows: &[Row]) -> Result<String, AllocError> {
@@ -93,7 +93,7 @@ fn scan_text<R: SealedReader>(
     let (rows, behind) = come(alloc, scan, count)?;
     let ends = ends_text(alloc, &rows)?;
     let behind = given_text(alloc, &behind)?;
-    let again = given_text(alloc, &given(alloc, scan))?;
+    let again = given_text(alloc, &asked(alloc, scan))?;
     format!(in alloc; "{ends}; then {behind}, and {again}")
 }
 
