@@ -4,7 +4,7 @@ ghost use Rattle.dev_traits.specs.View.{Told};
 ghost use Rattle.segment_read.specs.Reads.{KnowsFooter};
 
 use crate::devices::Keeper;
-use crate::rows::{are_same, narrow, one_row, rows_with_keys_below, whole};
+use crate::rows::{are_same, narrow, one_row, rows_from, whole};
 use crate::stores::reader_of;
 use case_texts::{bytes_of_hex, hex_of};
 use column_page::{Footer, write_footer};
@@ -89,6 +89,10 @@ fn number(word: &str) -> u64 {
     word.parse::<u64>().unwrap_or(0)
 }
 
+fn small(word: &str) -> u32 {
+    word.parse::<u32>().unwrap_or(0)
+}
+
 impl Files {
     pub fn new(alloc: Global) -> Result<Files, AllocError> {
         Ok(Files {
@@ -112,9 +116,17 @@ impl Files {
     /// `rows one`, the row (1, a, 1), and `rows COUNT`, with keys from 0 on and numbers below them.
     pub fn rows(&mut self, alloc: Global, words: &str) -> Result<String, AllocError> {
         self.rows = match words.parse::<u32>() {
-            Ok(count) => rows_with_keys_below(alloc, count)?,
+            Ok(count) => rows_from(alloc, 0, 1, count)?,
             Err(_) => one_row(alloc)?,
         };
+        format!(in alloc; "{} rows", self.rows.len())
+    }
+
+    /// `every STEP FIRST COUNT`: so many rows, whose keys begin with one and rise by a step.
+    pub fn every(&mut self, alloc: Global, words: &str) -> Result<String, AllocError> {
+        let (step, rest) = words.split_once(' ').unwrap_or((words, ""));
+        let (first, count) = rest.split_once(' ').unwrap_or((rest, ""));
+        self.rows = rows_from(alloc, small(first), small(step), small(count))?;
         format!(in alloc; "{} rows", self.rows.len())
     }
 

@@ -1,18 +1,22 @@
-//! Cases of the outside in memory, of logs, pages, footers and segments: each line of the input is a call with its
+//! Cases of the outside in memory, of logs, pages, footers, segments and scans: each line of the input is a call with its
 //! input, and the output has the line again with the answer behind it.
 #![tactic(auto)]
 
+mod dead_rows;
 mod devices;
 mod faults;
 mod files;
 mod logs;
 mod pages;
+mod parts;
 mod rows;
+mod scans;
 mod segments;
 mod stores;
 mod streams;
 
 use files::Files;
+use scans::Scans;
 use std::alloc::{AllocError, Global};
 use std::io;
 use stores::Stores;
@@ -24,6 +28,7 @@ struct Desk {
     stores: Stores,
     streams: Streams,
     files: Files,
+    scans: Scans,
 }
 
 impl Desk {
@@ -32,6 +37,7 @@ impl Desk {
             stores: Stores::new(alloc)?,
             streams: Streams::new(alloc),
             files: Files::new(alloc)?,
+            scans: Scans::new(alloc)?,
         })
     }
 
@@ -68,14 +74,12 @@ impl Desk {
         }
     }
 
-    fn answer(&mut self, alloc: Global, line: &str) -> Result<String, AllocError> {
-        let (call, words) = line.split_once(' ').unwrap_or((line, ""));
+    // Calls of files.
+    fn file(&mut self, alloc: Global, call: &str, words: &str) -> Result<String, AllocError> {
         match call {
-            "page" => pages::page(alloc, words),
-            "cells" => pages::cells(alloc, words),
-            "footer" => pages::footer(alloc, words),
             "table" => self.files.table(alloc, words),
             "rows" => self.files.rows(alloc, words),
+            "every" => self.files.every(alloc, words),
             "segment" => self.files.segment(alloc, words),
             "made" => self.files.made(alloc, words),
             "kept" => self.files.kept(alloc, words),
@@ -83,9 +87,23 @@ impl Desk {
             "turn" => self.files.turn(alloc, words),
             "prefixes" => self.files.prefixes(alloc),
             "damage" => self.files.damage(alloc),
+            _ => self.device(alloc, call, words),
+        }
+    }
+
+    fn answer(&mut self, alloc: Global, line: &str) -> Result<String, AllocError> {
+        let (call, words) = line.split_once(' ').unwrap_or((line, ""));
+        match call {
+            "page" => pages::page(alloc, words),
+            "cells" => pages::cells(alloc, words),
+            "footer" => pages::footer(alloc, words),
             "back" => segments::back(alloc, &self.files),
             "open" => segments::open(alloc, &self.files, words),
-            _ => self.device(alloc, call, words),
+            "dead" => self.scans.dead(alloc, words),
+            "is_dead" => self.scans.is_dead(alloc, words),
+            "part" => self.scans.part(alloc, &self.files, words),
+            "scan" => self.scans.scan(alloc, words),
+            _ => self.file(alloc, call, words),
         }
     }
 }

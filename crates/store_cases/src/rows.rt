@@ -72,11 +72,14 @@ fn text_at(alloc: Global, key: u32) -> Result<Value, AllocError> {
     }
 }
 
-pub fn rows_with_keys_below(alloc: Global, count: u32) -> Result<Vec<Row>, AllocError> {
+/// So many rows, whose keys begin with one and rise by a step. Their numbers are those below zero.
+pub fn rows_from(alloc: Global, first: u32, step: u32, count: u32) -> Result<Vec<Row>, AllocError> {
     let mut rows = Vec::new(alloc);
-    for key in 0..count {
+    let mut key = first;
+    for _ in 0..count {
         let number = i128::from(key);
         rows.push(row(alloc, number, text_at(alloc, key)?, -number)?)?;
+        key = key.saturating_add(step);
     }
     Ok(rows)
 }
