@@ -1,7 +1,6 @@
-use crate::devices::{Counter, Keeper};
 use crate::tallies::Tally;
 use crate::texts::{entry_text, fault_text, number, pairs_of, pairs_text};
-use case_texts::{bytes_of_hex, hex_of};
+use case_texts::{Counter, Keeper, bytes_of_hex, hex_of};
 use dev_traits::{FileMaker, MakeFault, ReadFault, SealedReader};
 use index_file::{IndexFile, MadeIndex, attach_index, entries, keys_rise, probe, write_index};
 use pk_index::Pair;

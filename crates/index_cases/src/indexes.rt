@@ -1,9 +1,8 @@
 ghost use Rattle.std.specs.Prelude.{◌≡◌, [], IfOk, IfSome};
 
-use crate::devices::Counter;
 use crate::files::Files;
 use crate::texts::{damage_text, fault_text, number, pairs_of, pairs_text, place_text};
-use case_texts::bytes_of_hex;
+use case_texts::{Counter, bytes_of_hex};
 use index_file::{IndexFile, MadeIndex, attach_index};
 use pk_index::{Flushed, IndexFault, PkIndex};
 use std::alloc::{AllocError, Global};

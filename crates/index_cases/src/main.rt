@@ -2,7 +2,6 @@
 //! with its input, and the output has the line again with the answer behind it.
 #![tactic(auto)]
 
-mod devices;
 mod files;
 mod indexes;
 mod levels;

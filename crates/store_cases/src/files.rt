@@ -3,10 +3,9 @@ ghost use Rattle.dev_traits.specs.Image.{file};
 ghost use Rattle.dev_traits.specs.View.{Told};
 ghost use Rattle.segment_read.specs.Reads.{KnowsFooter};
 
-use crate::devices::Keeper;
 use crate::rows::{are_same, narrow, one_row, rows_from, whole};
 use crate::stores::reader_of;
-use case_texts::{bytes_of_hex, hex_of};
+use case_texts::{Keeper, bytes_of_hex, hex_of};
 use column_page::{Footer, write_footer};
 use dev_memory::{Faults, MemStore};
 use dev_traits::{

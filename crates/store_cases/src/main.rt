@@ -3,7 +3,6 @@
 #![tactic(auto)]
 
 mod dead_rows;
-mod devices;
 mod faults;
 mod files;
 mod logs;
