@@ -1,4 +1,4 @@
-ghost use Rattle.std.specs.Prelude.{◌≡◌, ⊥, ℕ, IfErr, IfNone, IfOk, IfSome, None, OnOk, Some};
+ghost use Rattle.std.specs.Prelude.{◌≡◌, ℕ, IfErr, IfNone, IfOk, IfSome, None, OnOk, Some};
 ghost use Rattle.dev_traits.specs.View.{Calm};
 ghost use Rattle.pk_model.specs.declared.books.Book.{Book};
 ghost use Rattle.pk_model.specs.Books.{answer, rows_at};
@@ -7,7 +7,7 @@ ghost use Rattle.pk_model.specs.declared.calls.Call.TheVariants as call;
 ghost use Rattle.pk_model.specs.declared.calls.Reply.TheVariants as reply;
 ghost use Rattle.journal_form.specs.Versions.{files_of};
 ghost use Rattle.snapshot_scan.specs.Snapshots.{fault_count, IsSnapshotOf, read_count};
-ghost use Rattle.tablet_state.specs.Snapshots.{ArePartsOf, IsKept, Lends, rowsets_at};
+ghost use Rattle.tablet_state.specs.Snapshots.{ArePartsOf, IsKeptVersion, Lends, rowsets_at};
 ghost use Rattle.tablet_state.specs.State.{Has, Steps, faults_of};
 ghost use Rattle.core_publish.specs.Opening.{IsOpeningOf, opened_or, opening_of, stat_of};
 ghost use Rattle.core_publish.specs.Replies.{IsOpening, IsStat, TellsShut};
@@ -21,7 +21,7 @@ use tablet_state::State;
 // The version that is asked for, where the state is open and keeps it, or the reply that says why not.
 fn wanted<S: Store>(state: &State<S>, want: Want) -> Result<u64, Reply>
     ensures is { opened_or result ≡ opening_of state.now.closed state.now.contents want }
-    ensures kept { IfOk result (IsKept state.now.contents) }
+    ensures kept { IfOk result (IsKeptVersion state.now.contents) }
     ensures open { OnOk result (state.now.closed ≡ None) }
     ensures refused { IfErr result (λ r. (v : ℕ) → r ≡ reply.Opened v → ⊥) }
 {
@@ -51,7 +51,7 @@ fn snapshot_of<S: Store>(
     state: &mut State<S>,
     v: u64,
 ) -> Result<Snapshot<S::Reader>, Memory>
-    requires { IsKept state.old.contents v }
+    requires { IsKeptVersion state.old.contents v }
     ensures version { IfOk result (λ snap. snap.version ≡ v) }
     ensures schema { IfOk result (λ snap. snap.schema ≡ state.old.contents.schema) }
     ensures parts { IfOk result (λ snap. IfSome (rowsets_at state.old.contents v) (λ rowsets.
@@ -87,7 +87,7 @@ pub fn open_version<S: Store>(
     ensures answer { IsOpeningOf state.old.closed state.old.contents want result.0 }
     ensures opened { IfSome result.1 (λ snap. result.0 ≡ reply.Opened snap.version) }
     ensures none { IfNone result.1 ((v : ℕ) → result.0 ≡ reply.Opened v → ⊥) }
-    ensures kept { IfSome result.1 (λ snap. IsKept state.old.contents snap.version) }
+    ensures kept { IfSome result.1 (λ snap. IsKeptVersion state.old.contents snap.version) }
     ensures schema { IfSome result.1 (λ snap. snap.schema ≡ state.old.contents.schema) }
     ensures parts { IfSome result.1 (λ snap. IfSome (rowsets_at state.old.contents snap.version) (λ rowsets.
         ArePartsOf state.old.segments (files_of rowsets) snap.parts)) }

@@ -33,7 +33,7 @@ use Rattle.snapshot_scan.specs.Parts.{IsPart, IsPieceOf, PartView}
 use Rattle.snapshot_scan.specs.Snapshots.{AreParts, ArePieces, IsSnapshotOf, SnapshotView}
 use Rattle.tablet_state.specs.Contents.{Contents, all_rowsets, begun_of, current_number, index_of, standing_of, version_of, versions_of}
 use Rattle.tablet_state.specs.Holding.{Holds, held}
-use Rattle.tablet_state.specs.Snapshots.{ArePartsOf, IsKept, IsPartOf, rowsets_at}
+use Rattle.tablet_state.specs.Snapshots.{ArePartsOf, IsKeptVersion, IsPartOf, rowsets_at}
 use Rattle.tablet_state.specs.Stands.{AreSegments, IsSegment, all_versions, files_in, part_of, rowsets_of, told_file}
 use Rattle.tablet_state.specs.State.{AreReadAs, Has, HasBook, HasFewFiles, HasOwn, HasStore, IsAttached, IsInHand, IsReadAs, SegmentView, Shown, footer_at, footers_of, named_files, segment_of}
 use Rattle.tablet_state.proofs.FileFacts.{all-append, all-first, all-last, all-map}
@@ -184,7 +184,7 @@ parts_are_parts c segs own i rowsets ps at are = record {
 
 -- ---- a version is kept
 
-pub kept_there : (c : Contents) (v : ℕ) → IsKept c v → v - c.floor < length (all_rowsets c)
+pub kept_there : (c : Contents) (v : ℕ) → IsKeptVersion c v → v - c.floor < length (all_rowsets c)
 kept_there c v kept = let long = length-append c.older (c.current ∷ []) in let low = kept.0 in let high = kept.1 in omega arith
 
 -- ---- they are a snapshot of the version's rows

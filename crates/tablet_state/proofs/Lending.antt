@@ -1,5 +1,5 @@
 -- Segments whose readers may have been read, and the parts of a version that are made of them.
-use Rattle.std.proofs.Common.{◌≡◌, refl, ap, sym, subst, ◌∙◌, ◌⊎◌, inl, inr, ℕ, zero, suc, ◌+◌, ◌-◌, ◌^◌, ◌<◌, ◌≤◌, min, List, [], ◌∷◌, ◌++◌, length, map, take, slice_get, slice_set, Option, Some, None, Bool, true, false, ◌==◌, if◌then◌else◌, is_some, IsSome, arith, append-nil, append_assoc}
+use Rattle.std.proofs.Common.{◌≡◌, refl, ap, sym, subst, ◌∙◌, ◌⊎◌, inl, inr, ℕ, zero, suc, ◌+◌, ◌-◌, ◌^◌, ◌<◌, ◌≤◌, min, List, [], ◌∷◌, ◌++◌, length, map, take, slice_get, slice_set, Option, Some, None, Bool, true, false, ◌==◌, if◌then◌else◌, is_some, IsSome, arith, append-nil, append_assoc, length-append}
 use Rattle.std.specs.List.{AllByRecursion}
 use Rattle.std.specs.Option.{option_map}
 use Rattle.std.proofs.lemmas.Bool.{eqb-true, eqb-false, eq-eqb, ne_eqb}
@@ -18,7 +18,7 @@ use Rattle.tablet_state.specs.Contents.{Contents}
 use Rattle.tablet_state.specs.State.{AreReadAs, HasOwn, IsAttached, IsInHand, IsOpen, IsReadAs, Keeps, SegmentView, Shown, footer_at, footers_of, named_files, reader_faults, segment_of}
 use Rattle.dev_traits.specs.View.{View}
 use Rattle.tablet_state.proofs.FileFacts.{all-first, all-last}
-use Rattle.tablet_state.specs.Snapshots.{ArePartsOf, IsPartOf, Lends, SameButReads, unread}
+use Rattle.tablet_state.specs.Snapshots.{ArePartsOf, IsPartOf, Lends, SameButReads, segment_reads, unread}
 
 pub some_one : {X : Type 0} (x y : X) → Some x ≡ Some y → x ≡ y
 some_one x y e = cc
@@ -365,3 +365,21 @@ place_within gs n place is some = go (segment_of gs n) is some
     go : (o : Option SegmentView) → slice_get gs place ≡ o → is_some o ≡ true → place < length gs
     go None e f = absurd (cc f)
     go (Some g) e f = got_within gs place g e
+
+-- ---- how often they were read
+
+-- one of them was read once more
+pub reads_set : (gs : List SegmentView) (i : ℕ) (old new : SegmentView) → slice_get gs i ≡ Some old → new.reader.reads ≤ old.reader.reads + 1 → segment_reads (slice_set gs i new) ≤ segment_reads gs + 1
+reads_set [] i old new at le = absurd (none_some old at)
+reads_set (g ∷ gs) zero old new at le = let same = ap (λ (h : SegmentView). h.reader.reads) (some_one g old at) in omega arith
+reads_set (g ∷ gs) (suc i) old new at le = let more = reads_set gs i old new at le in omega arith
+
+-- a rowset behind others has no more files than there are
+pub files_few : (rs : List (List ListedFile)) (i : ℕ) (r : List ListedFile) → slice_get rs i ≡ Some r → length (files_of (take i rs)) + length r ≤ length (files_of rs)
+files_few [] i r at = absurd (none_some r at)
+files_few (x ∷ rs) zero r at = let same = ap length (some_one x r at) in let both = length-append x (files_of rs) in omega arith
+files_few (x ∷ rs) (suc i) r at =
+    let more = files_few rs i r at in
+    let some = length-append x (files_of (take i rs)) in
+    let all = length-append x (files_of rs) in
+    omega arith

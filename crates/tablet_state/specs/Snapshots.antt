@@ -1,5 +1,5 @@
 -- What a state hands out to be read: the files of a kept version, each with its dead rows.
-use Rattle.std.specs.Prelude.{◌≡◌, ◌≤◌, ℕ, ◌-◌, List, [], ◌∷◌, map, slice_get, Option, Some, ⊤}
+use Rattle.std.specs.Prelude.{◌≡◌, ◌≤◌, ℕ, ◌+◌, ◌-◌, List, [], ◌∷◌, map, slice_get, Option, Some, ⊤}
 use Rattle.dev_traits.specs.Reader.{IsNew, SameFile}
 use Rattle.dev_traits.specs.View.{View, Calm}
 use Rattle.journal_form.specs.declared.records.ListedFile.{ListedFile}
@@ -9,8 +9,8 @@ use Rattle.tablet_state.specs.Contents.{Contents, all_rowsets, current_number}
 use Rattle.tablet_state.specs.State.{SegmentView, Shown, segment_of}
 
 -- the version is kept
-abbrev pub IsKept : Contents → ℕ → Type 0
-IsKept c v = (c.floor ≤ v) × (v ≤ current_number c)
+abbrev pub IsKeptVersion : Contents → ℕ → Type 0
+IsKeptVersion c v = (c.floor ≤ v) × (v ≤ current_number c)
 
 -- its rowsets
 abbrev pub rowsets_at : Contents → ℕ → Option (List ListedRowset)
@@ -40,6 +40,11 @@ unread g = record g { reader = record g.reader { reads = 0 } }
 -- the same segments, but that their readers may have been read
 abbrev pub SameButReads : List SegmentView → List SegmentView → Type 0
 SameButReads old new = map unread new ≡ map unread old
+
+-- how often their readers were read, in all
+abbrev pub segment_reads : List SegmentView → ℕ
+segment_reads [] = 0
+segment_reads (g ∷ gs) = g.reader.reads + segment_reads gs
 
 -- nothing is written, and what the state holds is as it was, but that its segments' readers may have been read
 pub record Lends {S : Type 0} (view : S → View) (old new : Shown S) : Type 0 where

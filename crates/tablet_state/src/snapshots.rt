@@ -1,4 +1,4 @@
-ghost use Rattle.std.specs.Prelude.{◌≡◌, ◌+◌, ◌-◌, ◌^◌, ◌<◌, ◌++◌, ◌∷◌, [], List, None, Some, min, map, slice_get};
+ghost use Rattle.std.specs.Prelude.{◌≡◌, ◌+◌, ◌-◌, ◌^◌, ◌<◌, ◌≤◌, ◌++◌, ◌∷◌, [], List, None, Some, min, map, slice_get};
 ghost use Rattle.std.specs.Prelude.{IfOk, IfSome, IsSome, OnOk, length};
 ghost use Rattle.std.specs.List.{AllByRecursion};
 ghost use Rattle.std.specs.FinMap.{len};
@@ -12,7 +12,8 @@ ghost use Rattle.kept_versions.specs.Files.{alive, is_live};
 ghost use Rattle.snapshot_scan.specs.Parts.{seen};
 ghost use Rattle.snapshot_scan.specs.Snapshots.{AreParts, fault_count, IsSnapshotOf, read_count};
 ghost use Rattle.tablet_state.specs.Seen.{segments_of};
-ghost use Rattle.tablet_state.specs.Snapshots.{ArePartsOf, IsKept, IsPartOf, Lends, rowsets_at, SameButReads};
+ghost use Rattle.tablet_state.specs.Snapshots.{ArePartsOf, IsKeptVersion, IsPartOf, Lends, rowsets_at, SameButReads};
+ghost use Rattle.tablet_state.specs.Snapshots.{segment_reads};
 ghost use Rattle.tablet_state.specs.State.{Has, Rests, faults_of, segment_of};
 
 use crate::State;
@@ -53,6 +54,8 @@ fn part_of<R: SealedReader>(
     requires there { IsSome (segment_of (segments_of R.view segments.old.items) file.now.file) }
     ensures part { IfOk result (λ part. IsPartOf (segments_of R.view segments.old.items) file.now (seen R.view part)) }
     ensures same { SameButReads (segments_of R.view segments.old.items) (segments_of R.view segments.new.items) }
+    ensures reads { segment_reads (segments_of R.view segments.new.items)
+        ≤ segment_reads (segments_of R.view segments.old.items) + 1 }
 {
     let place = place_of(segments.as_slice(), file.number());
     let dead = file.dead().copy()?;
@@ -73,6 +76,8 @@ fn join_parts<R: SealedReader>(
         → ArePartsOf (segments_of R.view segments.old.items) before (map (seen R.view) parts.old.items)
         → ArePartsOf (segments_of R.view segments.old.items) (before ++ files.now) (map (seen R.view) parts.new.items)) }
     ensures same { SameButReads (segments_of R.view segments.old.items) (segments_of R.view segments.new.items) }
+    ensures reads { segment_reads (segments_of R.view segments.new.items)
+        ≤ segment_reads (segments_of R.view segments.old.items) + length files.now }
 {
     for file in files {
         parts.push(part_of(alloc, segments, file)?)?;
@@ -92,6 +97,8 @@ fn parts_of<R: SealedReader>(
     ensures parts { IfOk result (λ parts.
         ArePartsOf (segments_of R.view segments.old.items) (files_of version.now) (map (seen R.view) parts.items)) }
     ensures same { SameButReads (segments_of R.view segments.old.items) (segments_of R.view segments.new.items) }
+    ensures reads { segment_reads (segments_of R.view segments.new.items)
+        ≤ segment_reads (segments_of R.view segments.old.items) + length (files_of version.now) }
 {
     let mut parts = Vec::new(alloc);
     for files in version.rowsets() {
@@ -120,7 +127,7 @@ impl<S: Store> State<S> {
         alloc: Global,
         v: u64,
     ) -> Result<Vec<(Segment<S::Reader>, DelVector)>, Memory>
-        requires { IsKept self.old.contents v }
+        requires { IsKeptVersion self.old.contents v }
         ensures parts { IfOk result (λ parts. IfSome (rowsets_at self.old.contents v) (λ rowsets.
             ArePartsOf self.old.segments (files_of rowsets) (map (seen S.Reader.view) parts.items))) }
 
@@ -132,6 +139,10 @@ impl<S: Store> State<S> {
         ensures unfailed { IfOk result (λ parts. fault_count (map (seen S.Reader.view) parts.items) ≡ 0) }
         ensures unread { IfOk result (λ parts. read_count (map (seen S.Reader.view) parts.items) ≡ 0) }
         ensures lends { Lends S.view self.old self.new }
+
+        // At most one read for each of its files is counted.
+        ensures reads { IfSome (rowsets_at self.old.contents v) (λ rowsets.
+            segment_reads self.new.segments ≤ segment_reads self.old.segments + length (files_of rowsets)) }
         ensures faults { faults_of S.view self.new ≡ faults_of S.view self.old }
         ensures has { (b : Book) → Has S.view self.old b → Has S.view self.new b }
     {
@@ -155,7 +166,7 @@ impl<S: Store> State<S> {
 
     /// Whether a kept version has a live row at a place. It reads nothing.
     pub fn is_live(&self, v: u64, place: &Place) -> bool
-        requires { IsKept self.now.contents v }
+        requires { IsKeptVersion self.now.contents v }
         ensures { IfSome (rowsets_at self.now.contents v) (λ rowsets. result ≡ is_live rowsets place.now) }
     {
         let version = version_at(

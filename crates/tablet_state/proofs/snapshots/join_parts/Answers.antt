@@ -1,4 +1,4 @@
-use Rattle.std.proofs.Common.{◌∙◌, ◌∷◌, [], IsSome, ap, map}
+use Rattle.std.proofs.Common.{◌∙◌, ◌∷◌, [], IsSome, ap, arith, map}
 use Rattle.std.proofs.lemmas.List.{map-append}
 use Rattle.journal_form.specs.declared.records.ListedFile.{ListedFile}
 use Rattle.snapshot_scan.specs.Parts.{seen}
@@ -28,6 +28,7 @@ loop-file-preserved g c =
     let now = segments_of view c.loop-file.segments.items in
     record {
       same = lent_then first now (segments_of view c.part_of.new.segments.items) c.loop-file.invariant.same c.part_of.ensures.same;
+      reads = let so_far = c.loop-file.invariant.reads in let more = c.part_of.ensures.reads in omega arith;
       joined = λ before are. join_one first now c.loop-file.invariant.same before c.args.files.now c.loop-file.file-index c.file-item.result
           (map (seen view) c.loop-file.parts.items) (map (seen view) c.push.new.self.items) (seen view c.in_ok-part_of.field-0)
           (at_index c.args.files.now c.loop-file.file-index c.file-item.result c.loop-file-test.true c.file-item.is)

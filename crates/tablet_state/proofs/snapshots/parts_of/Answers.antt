@@ -1,4 +1,4 @@
-use Rattle.std.proofs.Common.{◌≡◌, ◌∙◌, ◌+◌, ◌++◌, List, IsSome, ap, sym, subst, map, take}
+use Rattle.std.proofs.Common.{◌≡◌, ◌∙◌, ◌+◌, ◌++◌, List, IsSome, ap, arith, length, length-append, sym, subst, map, take}
 use Rattle.std.specs.List.{AllByRecursion}
 use Rattle.journal_form.specs.declared.records.ListedFile.{ListedFile}
 use Rattle.journal_form.specs.Versions.{files_of}
@@ -7,7 +7,7 @@ use Rattle.tablet_state.specs.Seen.{segments_of}
 use Rattle.tablet_state.specs.Snapshots.{ArePartsOf}
 use Rattle.tablet_state.specs.State.{segment_of}
 use Rattle.tablet_state.proofs.Counting.{at_index}
-use Rattle.tablet_state.proofs.Lending.{files_at, files_one, lent_all, lent_rise, lent_then, parts_lent}
+use Rattle.tablet_state.proofs.Lending.{files_at, files_few, files_one, lent_all, lent_rise, lent_then, parts_lent}
 use Rattle.tablet_state.proofs.snapshots.parts_of.Goals as goal
 
 pub join_parts-requires-clause-rise : goal.join_parts-requires-clause-rise
@@ -41,5 +41,16 @@ loop-files-preserved g c =
         ap (λ (r : List ListedFile). before ++ r) c.as_slice.ensures ∙ sym (files_one rs i c.files-item.result (at_index rs i c.files-item.result c.loop-files-test.true c.files-item.is)) in
     record {
       same = lent_then first now (segments_of view c.join_parts.new.segments.items) c.loop-files.invariant.same c.join_parts.ensures.same;
+      reads = let so_far = c.loop-files.invariant.reads in let more = c.join_parts.ensures.reads in let all = ap length long in let both = length-append before c.as_slice.result.now in omega arith;
       joined = subst (λ (fs : List ListedFile). ArePartsOf first fs new) long (parts_lent first now c.loop-files.invariant.same (before ++ c.as_slice.result.now) new joined);
     }
+
+pub returns-in_err-join_parts-clause-reads : goal.returns-in_err-join_parts-clause-reads
+returns-in_err-join_parts-clause-reads g c =
+    let rs : List (List ListedFile) = c.rowsets-files-items.result.now in
+    let so_far = c.loop-files.invariant.reads in
+    let more = c.join_parts.ensures.reads in
+    let few = files_few rs c.loop-files.files-index c.files-item.result (at_index rs c.loop-files.files-index c.files-item.result c.loop-files-test.true c.files-item.is) in
+    let long = ap length c.as_slice.ensures in
+    let all = ap (λ (v : List (List ListedFile)). length (files_of v)) c.rowsets-files-items.ensures in
+    omega arith

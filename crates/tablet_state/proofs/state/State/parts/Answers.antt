@@ -1,11 +1,11 @@
-use Rattle.std.proofs.Common.{◌≡◌, ◌+◌, ◌-◌, ◌^◌, ◌<◌, ◌≤◌, ◌++◌, ◌∷◌, [], ◌∙◌, List, Some, map, length, min, refl, sym, ap, subst, slice_get, arith}
+use Rattle.std.proofs.Common.{◌≡◌, ◌+◌, ◌-◌, ◌^◌, ◌<◌, ◌≤◌, ◌++◌, ◌∷◌, [], ◌∙◌, IfSome, List, Option, Some, map, length, min, refl, sym, ap, subst, slice_get, arith}
 use Rattle.std.proofs.lemmas.Result.{IfOk-weaker}
 use Rattle.dev_traits.proofs.Moments.{calm_none}
 use Rattle.journal_form.specs.Versions.{Rowset as ListedRowset, files_of}
 use Rattle.snapshot_scan.specs.Parts.{seen}
 use Rattle.tablet_state.specs.Contents.{contents_of}
 use Rattle.tablet_state.specs.Seen.{segments_of}
-use Rattle.tablet_state.specs.Snapshots.{ArePartsOf, IsKept, rowsets_at}
+use Rattle.tablet_state.specs.Snapshots.{ArePartsOf, IsKeptVersion, rowsets_at, segment_reads}
 use Rattle.tablet_state.specs.State.{HasOwn, SegmentView, Shown, faults_of, reader_faults}
 use Rattle.tablet_state.proofs.Calming.{HasStill, has_calm}
 use Rattle.tablet_state.proofs.KeptFacts.{handed_are, handed_parts, handed_stand, version_found}
@@ -14,8 +14,8 @@ use Rattle.tablet_state.proofs.state.State.parts.Goals as goal
 
 pub version_at-version-requires : goal.version_at-version-requires
 version_at-version-requires g c =
-    let kept : IsKept (contents_of c.self.inside.schema c.self.inside.form c.self.inside.epoch c.self.inside.edit c.self.inside.next_file c.self.inside.floor c.self.inside.older.items c.self.inside.current c.self.inside.index.map) c.args.v =
-        subst (λ (x : Shown g.row.S.Denot). IsKept x.contents c.args.v) (sym c.self.view_is) c.requires in
+    let kept : IsKeptVersion (contents_of c.self.inside.schema c.self.inside.form c.self.inside.epoch c.self.inside.edit c.self.inside.next_file c.self.inside.floor c.self.inside.older.items c.self.inside.current c.self.inside.index.map) c.args.v =
+        subst (λ (x : Shown g.row.S.Denot). IsKeptVersion x.contents c.args.v) (sym c.self.view_is) c.requires in
     let high = kept.1 in
     let low = kept.0 in
     let long = ap length c.as_slice.ensures.value in
@@ -89,6 +89,18 @@ pub returns-clause-lends : goal.returns-clause-lends
 returns-clause-lends g c =
     subst (LendsFrom g.S.Store.view _) c.self.view_is
     (record { calm = calm_none (g.S.Store.view c.self.inside.store); area = refl; end = refl; contents = refl; segments = c.parts_of.ensures.same; closed = refl })
+
+pub returns-clause-reads : goal.returns-clause-reads
+returns-clause-reads g c =
+    let at = c.self.inside in
+    let read = g.S.Reader.SealedReader.view in
+    let rowsets = c.version_at-version.result.now in
+    let segs' : List SegmentView = segments_of read c.parts_of.new.segments.items in
+    let there : rowsets_at c.args.self.now.contents c.args.v ≡ Some rowsets = subst (λ (x : Shown g.row.S.Denot). rowsets_at x.contents c.args.v ≡ Some rowsets) c.self.view_is
+        (ap (λ (ws : List (List ListedRowset)). slice_get (ws ++ at.current ∷ []) (c.args.v - at.floor)) (sym c.as_slice.ensures.value) ∙ c.version_at-version.ensures) in
+    let few : segment_reads segs' ≤ segment_reads c.args.self.now.segments + length (files_of rowsets) =
+        subst (λ (x : Shown g.row.S.Denot). segment_reads segs' ≤ segment_reads x.segments + length (files_of rowsets)) c.self.view_is c.parts_of.ensures.reads in
+    subst (λ (o : Option (List ListedRowset)). IfSome o (λ rs. segment_reads segs' ≤ segment_reads c.args.self.now.segments + length (files_of rs))) (sym there) few
 
 pub returns-clause-faults : goal.returns-clause-faults
 returns-clause-faults g c =
