@@ -1,0 +1,164 @@
+-- What stands in a store that is left.
+use Rattle.std.proofs.Common.{◌≡◌, ◌⊎◌, inl, inr, refl, ap, sym, subst, ◌∙◌, ℕ, zero, suc, List, [], ◌∷◌, Option, Some, None, slice_get, Result, Err, Bool, true, false, ◌||◌, cond}
+use Rattle.std.specs.List.{AllByRecursion, list_any}
+use Rattle.std.specs.FinMap.{get}
+use Rattle.std.specs.Ordering.{eq_by_cmp, nat_cmp}
+use Rattle.std.proofs.lemmas.Bool.{eqb-true, ne_eqb}
+use Rattle.pk_values.specs.Schemas.{Layout}
+use Rattle.dev_traits.specs.Image.{Image, area_of, file, with_files_of, ForgetsSome}
+use Rattle.dev_traits.specs.View.{View, Told, EachImage, LeavesOnly}
+use Rattle.dev_traits.specs.declared.faults.Damaged.{Damaged}
+use Rattle.pk_model.specs.Durable.{durable}
+use Rattle.pk_model.specs.declared.books.Book.{Book}
+use Rattle.journal_form.specs.declared.records.NewFile.{NewFile}
+use Rattle.journal_form.specs.Meaning.{Standing}
+use Rattle.journal_form.specs.Versions.{Versions}
+use Rattle.rowsets.specs.Indexing.{CodeMap}
+use Rattle.journal_form.proofs.Parts.{some_is}
+use Rattle.version_journal.specs.Images.{HasNoRecord, IsSaid}
+use Rattle.version_journal.proofs.ReadImages.{says_one}
+use Rattle.tablet_state.specs.Stands.{Stands, all_versions, files_in}
+use Rattle.tablet_state.specs.State.{IsInHand, SegmentView, footers_of}
+use Rattle.core_recover.specs.Areas.{BlanksEmpty}
+use Rattle.core_recover.specs.Damages.{kept_files}
+use Rattle.core_recover.specs.Indexing.{numbers_in}
+use Rattle.core_recover.specs.Keeping.{HoldsRecords, IsLeft, IsThere, IsUnforgotten, IsUnnamed, StillReads}
+use Rattle.core_recover.specs.Naming.{IsAmong}
+use Rattle.core_recover.specs.Opening.{IsWant}
+use Rattle.core_recover.specs.Reading.{HasFiles, contents, named}
+use Rattle.core_recover.specs.Replaying.{IsReplayed}
+use Rattle.core_recover.specs.declared.faults.OpenFault.{OpenFault}
+use Rattle.core_recover.specs.declared.faults.OpenFault.TheVariants as fault
+use Rattle.core_recover.specs.declared.replaying.Replayed.{Replayed}
+use Rattle.core_recover.proofs.AreaFacts.{none_blanked}
+use Rattle.core_recover.proofs.AttachFacts.{all_one}
+use Rattle.core_recover.proofs.NamingFacts.{eq_is}
+use Rattle.core_recover.proofs.OpenFacts.{at_number, contained, file_of, kept_file, left_stands, listed_any, none_like, said_like}
+use Rattle.core_recover.proofs.ReadingFacts.{named_is, standing_is}
+use Rattle.core_recover.proofs.ToldFacts.{said_back, there_back}
+
+pub some_one : {X : Type 0} (x y : X) → Some x ≡ Some y → x ≡ y
+some_one x y e = cc
+
+-- what holds of each image holds of the one that is read
+pub read_each : (v : View) (P : Image → Type 0) → (image : Image) × (v.seen ≡ Some image) × v.may_leave image → EachImage v P → Told v P
+read_each v P reads each image told = subst P (some_one reads.0 image (sym reads.1 ∙ told)) (each reads.0 reads.2)
+
+-- ---- as it read before
+
+pub still_blanks : (before after : Image) → BlanksEmpty before after → StillReads before after
+still_blanks before after blanks = record { areas = blanks.areas; files = λ number. inl (ap (λ fs. get fs number) blanks.files) }
+
+pub still_same : (u v : View) → v.seen ≡ u.seen → Told u (λ before. Told v (StillReads before))
+still_same u v same before told after told' = still_blanks before after (none_blanked u v same before told after told')
+
+-- what stood for a book stands for it, and what had no record has none
+pub still_stands : (s : Layout) (b : Book) (before after : Image) → StillReads before after → Stands s b before → Stands s (durable b) after
+still_stands s b before after still stands =
+    left_stands s b before after stands (λ a lt. still.areas a) (kept (files_in (all_versions stands.standing.versions)) (λ i f at. (i, at)))
+  where
+    apart : (m : Standing) → IsSaid before m → (f : NewFile) → IsUnnamed (kept_files m) f.file → IsAmong (kept_files stands.standing) f.file f.rows → ⊥
+    apart m said f none at =
+        let same : m ≡ stands.standing = some_is m stands.standing (says_one before (Some m) (Some stands.standing) said stands.meant) in
+        none f.rows (subst (λ (x : Standing). IsAmong (kept_files x) f.file f.rows) (sym same) at)
+
+    one : (f : NewFile) → IsAmong (kept_files stands.standing) f.file f.rows → IsLeft before after f.file → (bytes : List ℕ) → file before f.file ≡ Some bytes → file after f.file ≡ Some bytes
+    one f at (inl same) bytes told = same ∙ told
+    one f at (inr (m, said, unnamed, none)) bytes told = absurd (apart m said f unnamed at)
+
+    kept : (fs : List NewFile) → ((i : ℕ) (f : NewFile) → slice_get fs i ≡ Some f → IsAmong (kept_files stands.standing) f.file f.rows) → AllByRecursion (λ (f : NewFile). (bytes : List ℕ) → file before f.file ≡ Some bytes → file after f.file ≡ Some bytes) fs
+    kept [] all = tt
+    kept (f ∷ fs) all = (one f (all 0 f refl) (still.files f.file), kept fs (λ i g at. all (suc i) g at))
+
+pub still_none : (before after : Image) → StillReads before after → HasNoRecord before → HasNoRecord after
+still_none before after still none = (none_like (area_of before 0) (area_of after 0) (still.areas 0) none.0, none_like (area_of before 1) (area_of after 1) (still.areas 1) none.1)
+
+-- ---- files that are named
+
+any_contains : (ns : List ℕ) (n : ℕ) → list_any (eq_by_cmp nat_cmp n) ns ≡ true → (i : ℕ) × (slice_get ns i ≡ Some n)
+any_contains [] n h = absurd (cc h)
+any_contains (m ∷ ns) n h = go (eq_by_cmp nat_cmp n m) refl h (any_contains ns n)
+  where
+    go : (b : Bool) → eq_by_cmp nat_cmp n m ≡ b → (b || list_any (eq_by_cmp nat_cmp n) ns) ≡ true → (list_any (eq_by_cmp nat_cmp n) ns ≡ true → (i : ℕ) × (slice_get ns i ≡ Some n)) → (i : ℕ) × (slice_get (m ∷ ns) i ≡ Some n)
+    go true e k more = (0, ap Some (sym (eqb-true n m (sym (eq_is n m) ∙ e))))
+    go false e k more = let w = more k in (suc w.0, w.1)
+
+unnamed_any : (fs : List NewFile) (gs : List SegmentView) (n : ℕ) → IsUnnamed fs n → AllByRecursion (λ (g : SegmentView). (rows : ℕ) × IsAmong fs g.number rows) gs → list_any (eq_by_cmp nat_cmp n) (numbers_in gs) ≡ false
+unnamed_any fs [] n none h = refl
+unnamed_any fs (g ∷ gs) n none h =
+    ap (λ (b : Bool). b || list_any (eq_by_cmp nat_cmp n) (numbers_in gs)) (eq_is n g.number ∙ ne_eqb n g.number (λ e. none h.0.0 (subst (λ (k : ℕ). IsAmong fs k h.0.0) (sym e) h.0.1)))
+    ∙ unnamed_any fs gs n none h.1
+
+-- the store that was read is left with the files of its kept versions
+module _ (r : Replayed) (segs : List SegmentView) (ns : List ℕ) (numbers : ns ≡ numbers_in segs) (m : Standing) (is : IsReplayed r m) (has : HasFiles r segs) (before mid : Image) (blanks : BlanksEmpty before mid)
+    (said : IsSaid mid m) where
+  in_list : (number rows : ℕ) → IsAmong (named r) number rows → (i : ℕ) × (slice_get ns i ≡ Some number)
+  in_list number rows among =
+      at_number segs ns numbers (record { file = number; rows = rows }) (all_one (IsInHand (footers_of segs)) (named r) among.0 (record { file = number; rows = rows }) has.in_hand among.1)
+
+  kept_are : kept_files m ≡ named r
+  kept_are = ap (λ (vs : Versions). files_in (all_versions vs)) is.versions ∙ named_is r
+
+  not_named : (number : ℕ) → list_any (eq_by_cmp nat_cmp number) ns ≡ false → IsUnnamed (kept_files m) number
+  not_named number none rows among =
+      let w = in_list number rows (subst (λ (fs : List NewFile). IsAmong fs number rows) kept_are among) in
+      let yes = listed_any ns w.0 number w.1 in
+      absurd (cc yes)
+
+  same_file : (number : ℕ) → file mid number ≡ file before number
+  same_file number = ap (λ fs. get fs number) blanks.files
+
+  pub still_kept : (after : Image) → ForgetsSome ns mid after → StillReads before after
+  still_kept after forgets = record { areas = λ a. area a (blanks.areas a); files = λ number. go number (list_any (eq_by_cmp nat_cmp number) ns) refl (forgets.others number) }
+    where
+      area : (a : ℕ) → (area_of mid a ≡ area_of before a) ⊎ ((area_of before a ≡ []) × (area_of mid a ≡ 0 ∷ [])) → (area_of after a ≡ area_of before a) ⊎ ((area_of before a ≡ []) × (area_of after a ≡ 0 ∷ []))
+      area a (inl same) = inl (forgets.forgets.areas a ∙ same)
+      area a (inr (none, blank)) = inr (none, forgets.forgets.areas a ∙ blank)
+
+      go : (number : ℕ) (b : Bool) → list_any (eq_by_cmp nat_cmp number) ns ≡ b → (file after number ≡ file mid number) ⊎ (file after number ≡ None) → IsLeft before after number
+      go number true e either = let w = any_contains ns number e in inl (forgets.forgets.kept number (contained ns w.0 number w.1) ∙ same_file number)
+      go number false e (inl same) = inl (same ∙ same_file number)
+      go number false e (inr none) = inr (m, said_back before mid m blanks said, not_named number e, none)
+
+  pub held_so : (codes : CodeMap) (after : Image) → after ≡ with_files_of ns mid → AllByRecursion (IsThere r.schema mid) (named r) → HoldsRecords (contents r codes) before after
+  held_so codes after left there = record {
+    kept = m.kept;
+    said = subst (IsSaid before) (standing_is r codes m is) (said_back before mid m blanks said);
+    again = subst (IsSaid after) (standing_is r codes m is) (said_like mid after m (λ a lt. inl (ap (λ (i : Image). area_of i a) left)) said);
+    there = subst (AllByRecursion (IsThere r.schema before)) (sym (named_is r)) (there_back r.schema (named r) before mid blanks there);
+    same = subst (AllByRecursion (λ (f : NewFile). file after f.file ≡ file before f.file)) (sym (named_is r)) (all_same (named r) has.in_hand);
+    others = λ number none. ap (λ (i : Image). file i number) left ∙ file_of ns mid number ∙ ap (λ (b : Bool). cond b (file mid number) None)
+        (ap (list_any (eq_by_cmp nat_cmp number)) numbers ∙ unnamed_any (named r) segs number (subst (λ (fs : List NewFile). IsUnnamed fs number) (named_is r) none) has.only);
+  }
+    where
+      all_same : (fs : List NewFile) → AllByRecursion (IsInHand (footers_of segs)) fs → AllByRecursion (λ (f : NewFile). file after f.file ≡ file before f.file) fs
+      all_same [] h = tt
+      all_same (f ∷ fs) h =
+          let w = at_number segs ns numbers f h.0 in
+          (ap (λ (i : Image). file i f.file) left ∙ kept_file ns mid w.0 f.file w.1 ∙ same_file f.file, all_same fs h.1)
+
+-- ---- faults
+
+pub want_whole : (e : OpenFault) (d : Damaged) → IsWant e → e ≡ fault.Damaged d → ⊥
+want_whole fault.StoreFault d want is = cc
+want_whole fault.Memory d want is = cc
+want_whole fault.Empty d want is = want
+want_whole (fault.Damaged x) d want is = want
+
+pub want_forgot : (e : OpenFault) → IsWant e → IsUnforgotten e → ⊥
+want_forgot fault.StoreFault want kept = kept
+want_forgot fault.Memory want kept = kept
+want_forgot fault.Empty want kept = want
+want_forgot (fault.Damaged d) want kept = want
+
+-- the store didn't fail
+pub unfailed : {T : Type 0} (H : Type 0) (e : OpenFault) → H ⊎ (e ≡ fault.StoreFault → ⊥) → H ⊎ (◌≡◌ {A = Result T OpenFault} (Err e) (Err fault.StoreFault) → ⊥)
+unfailed H e (inl honest) = inl honest
+unfailed H e (inr none) = inr (λ is. none (cc is))
+
+-- each image that is left stands for the book for which each stood
+pub each_left : (s : Layout) (b : Book) (u v : View) → EachImage u (Stands s (durable b)) → LeavesOnly (λ left. u.may_leave left ⊎ Stands s (durable (durable b)) left) u v → EachImage v (Stands s (durable b))
+each_left s b u v each only left may = elim (only.now left may) [
+  | inl was ↦ each left was
+  | inr stands ↦ stands
+]
