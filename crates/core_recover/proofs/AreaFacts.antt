@@ -8,7 +8,7 @@ use Rattle.dev_traits.specs.Image.{Image, area_of, file, with_area, Same, Blanke
 use Rattle.dev_traits.specs.View.{View, Told, EachImage, Leaves, LeavesOnly, Calm, ReadsElsewhere}
 use Rattle.dev_traits.proofs.Moments.{calm_before, calm_leaves, leaves_by, leaves_only_here, leaves_only_then, leaves_then}
 use Rattle.gated_log.specs.Log.{IsSynced}
-use Rattle.core_recover.specs.Areas.{BlanksEmpty, BlanksIn, IsEmptyOrBlank, IsLike, IsSyncedOrEmpty}
+use Rattle.core_recover.specs.Areas.{BlanksEmpty, BlanksIn, IsEmptyOrBlank, IsLike, IsSyncedOrEmpty, SameFiles}
 
 pub some_one : {X : Type 0} (x y : X) → Some x ≡ Some y → x ≡ y
 some_one x y e = cc
@@ -163,6 +163,21 @@ module _ (a : ℕ) (u v w : View) (calm : v.seen ≡ u.seen) (three : Told v (λ
       go x false e = inl (get_or-set_other before.areas a x (0 ∷ []) [] (eqb-false x a e))
       go x true e = subst (λ y. (area_of (with_area a (0 ∷ []) before) y ≡ area_of before y) ⊎ ((area_of before y ≡ []) × (area_of (with_area a (0 ∷ []) before) y ≡ 0 ∷ []))) (sym (eqb-true x a e))
           (inr (no_byte (area_of before a) (sym none ∙ size before told), area_blank before (calm ∙ told)))
+
+-- ---- files
+
+pub files_still : (u v : View) → v.seen ≡ u.seen → Told u (λ before. Told v (SameFiles before))
+files_still u v same before told after told' = ap (λ (i : Image). i.files) (some_one after before (sym told' ∙ same ∙ told))
+
+pub files_elsewhere : (a : ℕ) (u v : View) → ReadsElsewhere a u v → Told u (λ before. Told v (SameFiles before))
+files_elsewhere a u v elsewhere before told after told' = (elsewhere before told after told').files
+
+pub files_then : (u v w : View) → is_some w.seen ≡ is_some v.seen → Told u (λ before. Told v (SameFiles before)) → Told v (λ before. Told w (SameFiles before)) → Told u (λ before. Told w (SameFiles before))
+files_then u v w tells first second before told after told' =
+    let mid = told_before v w after tells told' in
+    second mid.0 mid.1 after told' ∙ first before told mid.0 mid.1
+
+-- ---- in an honest store
 
 -- an honest store whose empty area was blanked, or not
 pub blanked_still : (a n : ℕ) (u v w : View) → Calm u v → Told u (λ image. n ≡ length (area_of image a)) → n ≡ 0

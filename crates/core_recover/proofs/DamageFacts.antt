@@ -25,7 +25,7 @@ use Rattle.store_files.specs.declared.attaching.NamedFile.{NamedFile}
 use Rattle.tablet_state.specs.Seen.{segment_seen, segments_of}
 use Rattle.tablet_state.specs.Stands.{told_file}
 use Rattle.tablet_state.specs.State.{IsAttached, IsInHand, SameSegments, SegmentView, footer_at, footers_of, segment_of}
-use Rattle.core_recover.specs.Damages.{HasBadBlock, HasNoSegment, IsBlockDamage, IsFooterDamage, IsIn, IsLiveDamage, IsNamedDamage}
+use Rattle.core_recover.specs.Damages.{HasBadBlock, HasNoSegment, IsLiveBlockDamage, IsFooterDamage, StandsIn, IsLiveDamage, IsNamedDamage}
 use Rattle.core_recover.specs.Faults.{of_read}
 use Rattle.core_recover.specs.Indexing.{numbers_in}
 use Rattle.core_recover.specs.Keeping.{IsThere}
@@ -97,7 +97,7 @@ bad_back s old mid f d same bad =
       is = keys_reader s w.0.footer f.file f.dead bad.segment.reader w.0.reader d (sym w.1.1.bytes) (subst (λ (x : Footer). IsKeysDamage s x f.file f.dead bad.segment.reader d) (sym w.1.1.footer) bad.is);
     }
 
-pub live_back : (s : Layout) (files more : List ListedFile) (old mid : List SegmentView) (d : Damaged) → SameSegments old mid → ((f : ListedFile) → IsIn files f → IsIn more f) → IsLiveDamage s files mid d → IsLiveDamage s more old d
+pub live_back : (s : Layout) (files more : List ListedFile) (old mid : List SegmentView) (d : Damaged) → SameSegments old mid → ((f : ListedFile) → StandsIn files f → StandsIn more f) → IsLiveDamage s files mid d → IsLiveDamage s more old d
 live_back s files more old mid d same within damage =
     record { named = damage.named; among = within damage.named damage.among; is = go damage.is }
   where
@@ -107,20 +107,20 @@ live_back s files more old mid d same within damage =
 
 -- ---- among files
 
-pub one_within : (files : List ListedFile) (i : ℕ) (f : ListedFile) → slice_get files i ≡ Some f → (g : ListedFile) → IsIn (f ∷ []) g → IsIn files g
+pub one_within : (files : List ListedFile) (i : ℕ) (f : ListedFile) → slice_get files i ≡ Some f → (g : ListedFile) → StandsIn (f ∷ []) g → StandsIn files g
 one_within files i f at g (zero, e) = (i, at ∙ e)
 one_within files i f at g (suc k, e) = absurd (cc e)
 
-in_front : (xs ys : List ListedFile) (i : ℕ) (x : ListedFile) → slice_get xs i ≡ Some x → IsIn (xs ++ ys) x
+in_front : (xs ys : List ListedFile) (i : ℕ) (x : ListedFile) → slice_get xs i ≡ Some x → StandsIn (xs ++ ys) x
 in_front [] ys i x e = absurd (cc e)
 in_front (y ∷ xs) ys zero x e = (0, e)
 in_front (y ∷ xs) ys (suc i) x e = let w = in_front xs ys i x e in (suc w.0, w.1)
 
-in_back : (xs ys : List ListedFile) (x : ListedFile) → IsIn ys x → IsIn (xs ++ ys) x
+in_back : (xs ys : List ListedFile) (x : ListedFile) → StandsIn ys x → StandsIn (xs ++ ys) x
 in_back [] ys x w = w
 in_back (y ∷ xs) ys x w = let v = in_back xs ys x w in (suc v.0, v.1)
 
-pub rowset_within : (rowsets : List ListedRowset) (j : ℕ) (files : ListedRowset) → slice_get rowsets j ≡ Some files → (g : ListedFile) → IsIn files g → IsIn (files_of rowsets) g
+pub rowset_within : (rowsets : List ListedRowset) (j : ℕ) (files : ListedRowset) → slice_get rowsets j ≡ Some files → (g : ListedFile) → StandsIn files g → StandsIn (files_of rowsets) g
 rowset_within [] j files at g w = absurd (cc at)
 rowset_within (fs ∷ rowsets) zero files at g w =
     let same : files ≡ fs = sym (some_one fs files at) in
@@ -198,7 +198,7 @@ mark_at (m ∷ marks) zero lt = (m, refl)
 mark_at (m ∷ marks) (suc b) lt = mark_at marks b (omega arith)
 
 module _ (r : Replayed) (segs : List SegmentView) (image : Image) (has : HasFiles r segs) (reading : AllByRecursion (IsReading image) segs) (there : AllByRecursion (IsThere r.schema image) (named r)) where
-  live_block : (f : ListedFile) (d : Damaged) → IsIn (files_of r.current) f → IsInHand (footers_of segs) (told_file f) → IsThere r.schema image (told_file f) → HasBadBlock r.schema segs f d → IsBlockDamage r.schema (files_of r.current) image d
+  live_block : (f : ListedFile) (d : Damaged) → StandsIn (files_of r.current) f → IsInHand (footers_of segs) (told_file f) → IsThere r.schema image (told_file f) → HasBadBlock r.schema segs f d → IsLiveBlockDamage r.schema (files_of r.current) image d
   live_block f d among hand is bad =
       let known = found_all (IsAttached r.schema) segs f.file bad.segment bad.there has.attached in
       let reads = found_all (IsReading image) segs f.file bad.segment bad.there reading in
@@ -233,8 +233,9 @@ module _ (r : Replayed) (segs : List SegmentView) (image : Image) (has : HasFile
 
       go : HasNoSegment segs live.named ⊎ HasBadBlock r.schema segs live.named d → IsNamedDamage r.schema (named r) (files_of r.current) image d
       go (inl none) = absurd (hand_found segs live.named.file hand.footer hand.there none.none)
-      go (inr bad) = inr (inl (live_block live.named d live.among hand is bad))
+      go (inr bad) = inr (live_block live.named d live.among hand is bad)
 
-pub named_damage : (r : Replayed) (image : Image) (d : Damaged) → IsFooterDamage r.schema (named r) image d ⊎ ((d ≡ damage_of 0) × Clash (named r)) → IsNamedDamage r.schema (named r) (files_of r.current) image d
-named_damage r image d (inl footer) = inl footer
-named_damage r image d (inr clash) = inr (inr clash)
+pub named_damage : (r : Replayed) (image : Image) (d : Damaged) → IsFooterDamage r.schema (named r) image d ⊎ ((d ≡ damage_of 0) × Clash (named r))
+    → IsNamedDamage r.schema (named r) (files_of r.current) image d ⊎ Clash (named r)
+named_damage r image d (inl footer) = inl (inl footer)
+named_damage r image d (inr clash) = inr clash.1

@@ -5,8 +5,9 @@ use Rattle.std.specs.FinMap.{get}
 use Rattle.std.specs.Ordering.{eq_by_cmp, nat_cmp}
 use Rattle.std.proofs.lemmas.Bool.{eqb-true, ne_eqb}
 use Rattle.pk_values.specs.Schemas.{Layout}
-use Rattle.dev_traits.specs.Image.{Image, area_of, file, with_files_of, ForgetsSome}
-use Rattle.dev_traits.specs.View.{View, Told, EachImage, LeavesOnly}
+use Rattle.dev_traits.specs.Image.{Image, area_of, file, with_files_of, Forgets, ForgetsSome, Same}
+use Rattle.dev_traits.specs.View.{View, Calm, Told, EachImage, Leaves, LeavesOnly}
+use Rattle.dev_traits.proofs.Moments.{calm_leaves, leaves_by}
 use Rattle.dev_traits.specs.declared.faults.Damaged.{Damaged}
 use Rattle.pk_model.specs.Durable.{durable}
 use Rattle.pk_model.specs.declared.books.Book.{Book}
@@ -14,18 +15,19 @@ use Rattle.journal_form.specs.declared.records.NewFile.{NewFile}
 use Rattle.journal_form.specs.Meaning.{Standing}
 use Rattle.journal_form.specs.Versions.{Versions}
 use Rattle.rowsets.specs.Indexing.{CodeMap}
+use Rattle.rowsets.specs.Live.{Files}
 use Rattle.journal_form.proofs.Parts.{some_is}
 use Rattle.version_journal.specs.Images.{HasNoRecord, IsSaid}
 use Rattle.version_journal.proofs.ReadImages.{says_one}
-use Rattle.tablet_state.specs.Stands.{Stands, all_versions, files_in}
+use Rattle.tablet_state.specs.Stands.{AreSegments, Stands, all_versions, files_in}
 use Rattle.tablet_state.specs.State.{IsInHand, SegmentView, footers_of}
 use Rattle.core_recover.specs.Areas.{BlanksEmpty}
 use Rattle.core_recover.specs.Damages.{kept_files}
 use Rattle.core_recover.specs.Indexing.{numbers_in}
-use Rattle.core_recover.specs.Keeping.{HoldsRecords, IsLeft, IsThere, IsUnforgotten, IsUnnamed, StillReads}
+use Rattle.core_recover.specs.Keeping.{HoldsRecords, IsKeptOrForgotten, IsThere, IsUnforgotten, IsUnnamed, ReadsNamed, StillReads}
 use Rattle.core_recover.specs.Naming.{IsAmong}
 use Rattle.core_recover.specs.Opening.{IsWant}
-use Rattle.core_recover.specs.Reading.{HasFiles, contents, named}
+use Rattle.core_recover.specs.Reading.{HasFiles, IsIndexed, IsReading, contents, named}
 use Rattle.core_recover.specs.Replaying.{IsReplayed}
 use Rattle.core_recover.specs.declared.faults.OpenFault.{OpenFault}
 use Rattle.core_recover.specs.declared.faults.OpenFault.TheVariants as fault
@@ -33,7 +35,7 @@ use Rattle.core_recover.specs.declared.replaying.Replayed.{Replayed}
 use Rattle.core_recover.proofs.AreaFacts.{none_blanked}
 use Rattle.core_recover.proofs.AttachFacts.{all_one}
 use Rattle.core_recover.proofs.NamingFacts.{eq_is}
-use Rattle.core_recover.proofs.OpenFacts.{at_number, contained, file_of, kept_file, left_stands, listed_any, none_like, said_like}
+use Rattle.core_recover.proofs.OpenFacts.{at_number, contained, every, file_of, kept_file, left_stands, listed_any, none_like, said_like, segments_kept}
 use Rattle.core_recover.proofs.ReadingFacts.{named_is, standing_is}
 use Rattle.core_recover.proofs.ToldFacts.{said_back, there_back}
 
@@ -62,7 +64,7 @@ still_stands s b before after still stands =
         let same : m ≡ stands.standing = some_is m stands.standing (says_one before (Some m) (Some stands.standing) said stands.meant) in
         none f.rows (subst (λ (x : Standing). IsAmong (kept_files x) f.file f.rows) (sym same) at)
 
-    one : (f : NewFile) → IsAmong (kept_files stands.standing) f.file f.rows → IsLeft before after f.file → (bytes : List ℕ) → file before f.file ≡ Some bytes → file after f.file ≡ Some bytes
+    one : (f : NewFile) → IsAmong (kept_files stands.standing) f.file f.rows → IsKeptOrForgotten before after f.file → (bytes : List ℕ) → file before f.file ≡ Some bytes → file after f.file ≡ Some bytes
     one f at (inl same) bytes told = same ∙ told
     one f at (inr (m, said, unnamed, none)) bytes told = absurd (apart m said f unnamed at)
 
@@ -72,6 +74,17 @@ still_stands s b before after still stands =
 
 pub still_none : (before after : Image) → StillReads before after → HasNoRecord before → HasNoRecord after
 still_none before after still none = (none_like (area_of before 0) (area_of after 0) (still.areas 0) none.0, none_like (area_of before 1) (area_of after 1) (still.areas 1) none.1)
+
+-- ---- nothing is forgotten
+
+forgets_same : (ns : List ℕ) (image : Image) → ForgetsSome ns image image
+forgets_same ns image = record { forgets = record { areas = λ b. refl; kept = λ number within. refl }; others = λ number. inl refl }
+
+pub calm_forgets : (ns : List ℕ) (u v : View) → Calm u v → Leaves (Forgets ns) u v
+calm_forgets ns u v calm = leaves_by Same (Forgets ns) u v (calm_leaves u v calm) (λ d i left same. subst (Forgets ns d) (sym same) (forgets_same ns d).forgets)
+
+pub forgets_none : (ns : List ℕ) (u v : View) → v.seen ≡ u.seen → Told u (λ before. Told v (ForgetsSome ns before))
+forgets_none ns u v same before told after told' = subst (ForgetsSome ns before) (sym (some_one after before (sym told' ∙ same ∙ told))) (forgets_same ns before)
 
 -- ---- files that are named
 
@@ -115,7 +128,7 @@ module _ (r : Replayed) (segs : List SegmentView) (ns : List ℕ) (numbers : ns 
       area a (inl same) = inl (forgets.forgets.areas a ∙ same)
       area a (inr (none, blank)) = inr (none, forgets.forgets.areas a ∙ blank)
 
-      go : (number : ℕ) (b : Bool) → list_any (eq_by_cmp nat_cmp number) ns ≡ b → (file after number ≡ file mid number) ⊎ (file after number ≡ None) → IsLeft before after number
+      go : (number : ℕ) (b : Bool) → list_any (eq_by_cmp nat_cmp number) ns ≡ b → (file after number ≡ file mid number) ⊎ (file after number ≡ None) → IsKeptOrForgotten before after number
       go number true e either = let w = any_contains ns number e in inl (forgets.forgets.kept number (contained ns w.0 number w.1) ∙ same_file number)
       go number false e (inl same) = inl (same ∙ same_file number)
       go number false e (inr none) = inr (m, said_back before mid m blanks said, not_named number e, none)
@@ -127,6 +140,7 @@ module _ (r : Replayed) (segs : List SegmentView) (ns : List ℕ) (numbers : ns 
     again = subst (IsSaid after) (standing_is r codes m is) (said_like mid after m (λ a lt. inl (ap (λ (i : Image). area_of i a) left)) said);
     there = subst (AllByRecursion (IsThere r.schema before)) (sym (named_is r)) (there_back r.schema (named r) before mid blanks there);
     same = subst (AllByRecursion (λ (f : NewFile). file after f.file ≡ file before f.file)) (sym (named_is r)) (all_same (named r) has.in_hand);
+    plan = refl;
     others = λ number none. ap (λ (i : Image). file i number) left ∙ file_of ns mid number ∙ ap (λ (b : Bool). cond b (file mid number) None)
         (ap (list_any (eq_by_cmp nat_cmp number)) numbers ∙ unnamed_any (named r) segs number (subst (λ (fs : List NewFile). IsUnnamed fs number) (named_is r) none) has.only);
   }
@@ -137,19 +151,36 @@ module _ (r : Replayed) (segs : List SegmentView) (ns : List ℕ) (numbers : ns 
           let w = at_number segs ns numbers f h.0 in
           (ap (λ (i : Image). file i f.file) left ∙ kept_file ns mid w.0 f.file w.1 ∙ same_file f.file, all_same fs h.1)
 
+-- what the segments read, and the codes
+pub readers_so : (r : Replayed) (codes : CodeMap) (segs : List SegmentView) (before mid : Image) → BlanksEmpty before mid → HasFiles r segs → AllByRecursion (IsReading mid) segs
+    → ((stored : Files) → AreSegments r.schema stored (named r) mid → IsIndexed r stored codes) → ReadsNamed (contents r codes) segs before
+readers_so r codes segs before mid blanks has reading indexed = record {
+  reading = back segs reading;
+  rise = has.rise;
+  in_hand = subst (AllByRecursion (IsInHand (footers_of segs))) (sym (named_is r)) has.in_hand;
+  only = subst (λ (fs : List NewFile). AllByRecursion (λ (g : SegmentView). (rows : ℕ) × IsAmong fs g.number rows) segs) (sym (named_is r)) has.only;
+  indexed = λ stored are. indexed stored (segments_kept r.schema stored (named r) before mid
+      (every (λ (f : NewFile). (bytes : List ℕ) → file before f.file ≡ Some bytes → file mid f.file ≡ Some bytes) (named r) (λ f bytes told. ap (λ fs. get fs f.file) blanks.files ∙ told))
+      (subst (λ (fs : List NewFile). AreSegments r.schema stored fs before) (named_is r) are));
+}
+  where
+    back : (gs : List SegmentView) → AllByRecursion (IsReading mid) gs → AllByRecursion (IsReading before) gs
+    back [] h = tt
+    back (g ∷ gs) h = (record { bytes = h.0.bytes ∙ ap (λ fs. get fs g.number) blanks.files }, back gs h.1)
+
 -- ---- faults
+
+pub store_or_memory : {T : Type 0} → ◌≡◌ {A = Result T OpenFault} (Err fault.StoreFault) (Err fault.Memory) → ⊥
+store_or_memory is = cc
+
+pub memory_keeps : {T : Type 0} (e : OpenFault) → ◌≡◌ {A = Result T OpenFault} (Err e) (Err fault.Memory) → IsUnforgotten e
+memory_keeps e is = let same : e ≡ fault.Memory = cc is in subst IsUnforgotten (sym same) tt
 
 pub want_whole : (e : OpenFault) (d : Damaged) → IsWant e → e ≡ fault.Damaged d → ⊥
 want_whole fault.StoreFault d want is = cc
 want_whole fault.Memory d want is = cc
 want_whole fault.Empty d want is = want
 want_whole (fault.Damaged x) d want is = want
-
-pub want_forgot : (e : OpenFault) → IsWant e → IsUnforgotten e → ⊥
-want_forgot fault.StoreFault want kept = kept
-want_forgot fault.Memory want kept = kept
-want_forgot fault.Empty want kept = want
-want_forgot (fault.Damaged d) want kept = want
 
 -- the store didn't fail
 pub unfailed : {T : Type 0} (H : Type 0) (e : OpenFault) → H ⊎ (e ≡ fault.StoreFault → ⊥) → H ⊎ (◌≡◌ {A = Result T OpenFault} (Err e) (Err fault.StoreFault) → ⊥)

@@ -13,5 +13,6 @@ pub mod TabletFacts
 pub mod CountFacts
 pub mod DamageFacts
 pub mod ToldFacts
+pub mod ClashFacts
 pub mod KeepFacts
 pub mod NewFacts

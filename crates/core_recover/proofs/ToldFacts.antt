@@ -19,7 +19,7 @@ use Rattle.version_journal.specs.declared.fault.JournalFault.TheVariants as jour
 use Rattle.store_files.specs.Named.{FileShown}
 use Rattle.tablet_state.specs.Stands.{all_versions, files_in}
 use Rattle.core_recover.specs.Areas.{BlanksEmpty}
-use Rattle.core_recover.specs.Damages.{IsBlockDamage, IsDamageOf, IsFooterDamage, IsNamedDamage, kept_files}
+use Rattle.core_recover.specs.Damages.{IsLiveBlockDamage, IsDamageOf, IsFooterDamage, IsNamedDamage, kept_files}
 use Rattle.core_recover.specs.Faults.{of_journal}
 use Rattle.core_recover.specs.Keeping.{IsThere}
 use Rattle.core_recover.specs.Reading.{named}
@@ -87,7 +87,7 @@ file_back before mid n blanks = ap (λ fs. get fs n) blanks.files
 
 named_back : (s : Layout) (files : List NewFile) (current : List ListedFile) (before mid : Image) (d : Damaged) → BlanksEmpty before mid → IsNamedDamage s files current mid d → IsNamedDamage s files current before d
 named_back s files current before mid d blanks (inl is) = inl (record { rows = is.rows; named = is.named; part_is = is.part_is; shows = subst (λ (o : Option (List ℕ)). FileShown s is.rows o d.shown) (file_back before mid d.file blanks) is.shows })
-named_back s files current before mid d blanks (inr (inl is)) = inr (inl (record {
+named_back s files current before mid d blanks (inr is) = inr (record {
   named = is.named;
   among = is.among;
   file_is = is.file_is;
@@ -102,8 +102,7 @@ named_back s files current before mid d blanks (inr (inl is)) = inr (inl (record
   part_is = is.part_is;
   live = is.live;
   shows = is.shows;
-}))
-named_back s files current before mid d blanks (inr (inr clash)) = inr (inr clash)
+})
 
 pub damage_back : (before mid : Image) (d : Damaged) → BlanksEmpty before mid → IsDamageOf mid d → IsDamageOf before d
 damage_back before mid d blanks (inl (a, is, damaged)) = inl (a, is, damaged_back a before mid blanks damaged)

@@ -19,11 +19,11 @@ use Rattle.store_files.specs.Keys.{HasLive, HasLongKey, IsKeysDamage}
 use Rattle.store_files.specs.Named.{FileShown}
 use Rattle.tablet_state.specs.Stands.{all_versions, files_in}
 use Rattle.tablet_state.specs.State.{SegmentView, segment_of}
-use Rattle.core_recover.specs.Naming.{Clash, IsAmong}
+use Rattle.core_recover.specs.Naming.{IsAmong}
 
 -- a file stands in a list
-abbrev pub IsIn : List ListedFile → ListedFile → Type 0
-IsIn files f = (i : ℕ) × (slice_get files i ≡ Some f)
+abbrev pub StandsIn : List ListedFile → ListedFile → Type 0
+StandsIn files f = (i : ℕ) × (slice_get files i ≡ Some f)
 
 -- The damage is that of the footer of one of these files: the file isn't there, or its last bytes keep another digest than they have, or are no
 -- footer, or the footer tells of another number of rows.
@@ -35,9 +35,9 @@ pub record IsFooterDamage (s : Layout) (files : List NewFile) (image : Image) (d
 
 -- The damage is that of a block of one of these files, which is there with its footer. The block has a live row. It keeps another digest than it
 -- has, or no rows have its bytes, or the key of a live one of its rows has a code that is too long.
-pub record IsBlockDamage (s : Layout) (files : List ListedFile) (image : Image) (damaged : Damaged) : Type 0 where
+pub record IsLiveBlockDamage (s : Layout) (files : List ListedFile) (image : Image) (damaged : Damaged) : Type 0 where
   pub named : ListedFile
-  pub among : IsIn files named
+  pub among : StandsIn files named
   pub file_is : damaged.file ≡ named.file
   pub bytes : List ℕ
   pub there : file image named.file ≡ Some bytes
@@ -51,10 +51,10 @@ pub record IsBlockDamage (s : Layout) (files : List ListedFile) (image : Image) 
   pub live : HasLive named.dead footer.rows block
   pub shows : BlockShown s mark (block_in bytes mark) damaged.shown ⊎ HasLongKey s named.dead block mark (block_in bytes mark) damaged.shown
 
--- what some records name is damaged: a file of the kept versions, a block of the current one; or they tell one file with two numbers of rows
+-- what some records name is damaged: a file of the kept versions, or a block of the current one
 abbrev pub IsNamedDamage : Layout → List NewFile → List ListedFile → Image → Damaged → Type 0
 IsNamedDamage s files current image damaged =
-    IsFooterDamage s files image damaged ⊎ IsBlockDamage s current image damaged ⊎ ((damaged ≡ damage_of 0) × Clash files)
+    IsFooterDamage s files image damaged ⊎ IsLiveBlockDamage s current image damaged
 
 -- the files that the kept versions name
 abbrev pub kept_files : Standing → List NewFile
@@ -80,5 +80,5 @@ pub record HasBadBlock (s : Layout) (segments : List SegmentView) (f : ListedFil
 -- the damage is that of one of these files' segments
 pub record IsLiveDamage (s : Layout) (files : List ListedFile) (segments : List SegmentView) (damaged : Damaged) : Type 0 where
   pub named : ListedFile
-  pub among : IsIn files named
+  pub among : StandsIn files named
   pub is : HasNoSegment segments named ⊎ HasBadBlock s segments named damaged

@@ -12,7 +12,7 @@ ghost use Rattle.tablet_state.specs.State.{Has, faults_of, reader_faults};
 ghost use Rattle.tablet_state.specs.Stands.{Stands};
 ghost use Rattle.core_recover.specs.Areas.{IsEmptyOrBlank};
 ghost use Rattle.core_recover.specs.Creating.{BlanksBoth, Clears, HasBegun, HasNoFile, IsBlank, IsClean, IsStart, KeepsRest, first_standing, new_contents};
-ghost use Rattle.core_recover.specs.Keeping.{IsCounted, IsMade, IsUncounted};
+ghost use Rattle.core_recover.specs.Keeping.{CountsAs, IsNewStore, CountsNone};
 ghost use Rattle.core_recover.specs.Opening.{IsWant, store_left};
 ghost use Rattle.core_recover.specs.declared.faults.OpenFault.TheVariants as fault;
 
@@ -194,7 +194,7 @@ pub fn create<S: Store>(alloc: Global, store: S, schema: Schema) -> Result<State
 
     // Honest or not: the store has the creation as its one record, no file, and an area 2 that is empty or blank, in
     // each image of an honest store. The state holds what this record means.
-    ensures made { IfOk result (λ state. Told (S.view state.store) (IsMade schema)) }
+    ensures made { IfOk result (λ state. Told (S.view state.store) (IsNewStore schema)) }
     ensures index { IfOk result (λ state. IsTrue (S.view store).is_honest → EachImage (S.view state.store) (IsEmptyOrBlank 2)) }
     ensures contents { IfOk result (λ state. state.contents ≡ new_contents schema) }
 
@@ -203,8 +203,8 @@ pub fn create<S: Store>(alloc: Global, store: S, schema: Schema) -> Result<State
     ensures tells { is_some (S.view (store_left result)).seen ≡ is_some (S.view store).seen }
 
     // The count of faults: one more exactly where the store failed, and none more else.
-    ensures counted { IfErr result (λ e. IsCounted e.1 (S.view store).faults (S.view e.0).faults) }
-    ensures uncounted { IfOk result (λ state. IsUncounted S.view (S.view store).faults state) }
+    ensures counted { IfErr result (λ e. CountsAs e.1 (S.view store).faults (S.view e.0).faults) }
+    ensures uncounted { IfOk result (λ state. CountsNone S.view (S.view store).faults state) }
     ensures cause { IfErr result (λ e. e.1 ≡ OpenFault.StoreFault → RoseBy 1 (S.view store).faults (S.view e.0).faults) }
     ensures counts_ok { IfOk result (λ state. RoseBy 0 (S.view store).faults (faults_of S.view state)) }
     ensures counts_err { IfErr result (λ e. RoseBy 0 (S.view store).faults (S.view e.0).faults) }

@@ -145,8 +145,10 @@ fn read_files<S: Store>(
         → IfOk result (λ found. ReadsFiles replayed.now stored (segments_of S.Reader.view found.segments.items) × IsIndexed replayed.now stored found.index.map)) }
     ensures intact { Told (S.view store.old) (λ image. (stored : Files) → AreFiles replayed.now stored image → IfErr result IsWant) }
     ensures there { IfOk result (λ found. Told (S.view store.old) (λ image. AllByRecursion (IsThere replayed.now.schema image) (named replayed.now))) }
+    ensures bytes { IfOk result (λ found. Told (S.view store.old) (λ image. AllByRecursion (IsReading image) (segments_of S.Reader.view found.segments.items))) }
+    ensures indexed { IfOk result (λ found. Told (S.view store.old) (λ image. (stored : Files) → AreSegments replayed.now.schema stored (named replayed.now) image → IsIndexed replayed.now stored found.index.map)) }
     ensures damaged { IfErr result (λ e. (d : Damaged) → e ≡ fault.Damaged d → Told (S.view store.old) (λ image.
-        IsNamedDamage replayed.now.schema (named replayed.now) (files_of replayed.now.current) image d)) }
+        IsNamedDamage replayed.now.schema (named replayed.now) (files_of replayed.now.current) image d ⊎ Clash (named replayed.now))) }
     ensures not_empty { IsErrOf result fault.Empty → ⊥ }
     ensures calm { Calm (S.view store.old) (S.view store.new) }
     ensures cause { HasCauseOf fault.StoreFault (S.view store.old).faults (S.view store.new).faults result }
@@ -202,6 +204,9 @@ pub fn read_tablet<S: Store>(alloc: Global, store: &mut S) -> Result<Tablet<S>, 
     // damaged; and each file that is named is there with its footer where none is told.
     ensures damaged { IfErr result (λ e. (d : Damaged) → e ≡ fault.Damaged d → Told (S.view store.old) (λ image. IsDamageOf image d)) }
     ensures there { IfOk result (λ found. Told (S.view store.old) (λ image. AllByRecursion (IsThere found.replayed.schema image) (named found.replayed))) }
+    ensures bytes { IfOk result (λ found. Told (S.view store.old) (λ image. AllByRecursion (IsReading image) (segments_of S.Reader.view found.files.segments.items))) }
+    ensures indexed { IfOk result (λ found. Told (S.view store.old) (λ image. (stored : Files) → AreSegments found.replayed.schema stored (named found.replayed) image
+        → IsIndexed found.replayed stored found.files.index.map)) }
     ensures only_empty { Told (S.view store.old) (λ image. HasNoRecord image → IfErr result (λ e. (e ≡ fault.Empty) ⊎ IsWant e)) }
     ensures never { Told (S.view store.old) (λ image. HasNoRecord image → OnOk result ⊥) }
     ensures empty { IsErrOf result fault.Empty → Told (S.view store.old) HasNoRecord }

@@ -1,5 +1,5 @@
 use Rattle.std.proofs.Common.{sym, subst, IsTrue, Bool, arith}
-use Rattle.core_recover.proofs.AreaFacts.{blanks_then, both_synced, either_elsewhere, in_both, on_so, synced_elsewhere}
+use Rattle.core_recover.proofs.AreaFacts.{blanks_then, both_synced, either_elsewhere, files_elsewhere, files_then, in_both, on_so, synced_elsewhere}
 use Rattle.core_recover.proofs.areas.blank_journal.Goals as goal
 
 pub returns-clause-moments : goal.returns-clause-moments
@@ -22,3 +22,13 @@ returns-clause-still g c = λ honest.
     let two = g.S.Store.view c.blank_empty-2.new.store in
     let still : IsTrue one.is_honest = subst (λ (b : Bool). IsTrue b) (sym c.blank_empty.ensures.spends.honest) honest in
     blanks_then old one two c.blank_empty-2.ensures.spends.tells (c.blank_empty.ensures.still honest) (c.blank_empty-2.ensures.still still)
+
+pub returns-in_err-blank_empty-clause-files : goal.returns-in_err-blank_empty-clause-files
+returns-in_err-blank_empty-clause-files g c = files_elsewhere 0 (g.S.Store.view c.args.store.now) (g.S.Store.view c.blank_empty.new.store) c.blank_empty.ensures.elsewhere
+
+pub returns-clause-files : goal.returns-clause-files
+returns-clause-files g c =
+    let old = g.S.Store.view c.args.store.now in
+    let one = g.S.Store.view c.blank_empty.new.store in
+    let two = g.S.Store.view c.blank_empty-2.new.store in
+    files_then old one two c.blank_empty-2.ensures.spends.tells (files_elsewhere 0 old one c.blank_empty.ensures.elsewhere) (files_elsewhere 1 one two c.blank_empty-2.ensures.elsewhere)

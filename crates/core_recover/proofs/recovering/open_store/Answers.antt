@@ -11,12 +11,16 @@ use Rattle.tablet_state.specs.Seen.{segments_of}
 use Rattle.tablet_state.specs.Stands.{Stands}
 use Rattle.core_recover.specs.Areas.{IsLike}
 use Rattle.core_recover.proofs.CreateFacts.{calm_each, only_behind}
-use Rattle.core_recover.proofs.OpenFacts.{like_none, rises_each, settled_still}
+use Rattle.core_recover.proofs.OpenFacts.{like_none, like_stands, rises_each, settled_still}
 use Rattle.core_recover.proofs.OpenedFacts.{IsSettledFrom, at_first, each_like, empty_before, from_calm, like_book, like_none_book, mid, forgot_read, mid_like, mid_stands, none_each, open_so, opened_so, settled_blanks, settled_moments, synced_calm, while_kept}
-use Rattle.core_recover.proofs.KeepFacts.{held_so, some_one, still_blanks, still_kept, still_same, want_forgot, want_whole}
+use Rattle.core_recover.proofs.KeepFacts.{held_so, memory_keeps, readers_so, some_one, still_blanks, still_kept, still_same, store_or_memory, want_whole}
+use Rattle.core_recover.proofs.AreaFacts.{files_still}
+use Rattle.core_recover.specs.declared.faults.OpenFault.TheVariants as fault
+use Rattle.dev_traits.proofs.Moments.{calm_then}
+use Rattle.std.specs.FinMap.{get}
 use Rattle.core_recover.proofs.ToldFacts.{damage_back}
 use Rattle.core_recover.proofs.ReadingFacts.{own_so}
-use Rattle.core_recover.proofs.TabletFacts.{err_over}
+use Rattle.core_recover.proofs.TabletFacts.{err_over, no_err}
 use Rattle.core_recover.proofs.recovering.open_store.Goals as goal
 
 pub returns-in_err-room-clause-any_moment : goal.returns-in_err-room-clause-any_moment
@@ -224,7 +228,79 @@ returns-in_err-tablet-clause-unforgotten g c = let r = err_from_is_err_and c.fro
     (p.seen before (c.room.ensures.calm.seen ∙ told) after (sym c.read_tablet.ensures.calm.seen ∙ told')).files)
 
 pub returns-in-Err-clause-unforgotten : goal.returns-in-Err-clause-unforgotten
-returns-in-Err-clause-unforgotten g c = λ kind. absurd (want_forgot c.in-Err.fault c.in-Err.ensures.want kind)
+returns-in-Err-clause-unforgotten g c = λ kind before told after told'.
+    let v0 = g.S.Store.view c.args.store.now in let v1 = g.S.Store.view c.room.new.self in let v2 = g.S.Store.view c.settle_areas.new.store in let v3 = g.S.Store.view c.read_tablet.new.store in let v4 = g.S.Store.view c.keep_files.new.store in
+    let p : IsSettledFrom v0 v1 v2 = record { calm = c.room.ensures.calm; tells = c.settle_areas.ensures.spends.tells; seen = c.in_ok-settle_areas.ensures.seen; like = c.in_ok-settle_areas.ensures.like; moments = c.settle_areas.ensures.any_moment } in
+    let calm = c.in-Err.ensures.unforgotten kind in
+    (p.seen before (c.room.ensures.calm.seen ∙ told) after (sym c.read_tablet.ensures.calm.seen ∙ sym calm.seen ∙ sym c.give_back.ensures.calm.seen ∙ told')).files
+
+pub returns-in_err-room-clause-unforgotten : goal.returns-in_err-room-clause-unforgotten
+returns-in_err-room-clause-unforgotten g c = let r = err_from_is_err_and c.from_residual.result c.from_residual.ensures.1 in
+    rw (r.1, r.2) (λ kind. files_still (g.S.Store.view c.args.store.now) (g.S.Store.view c.room.new.self) c.room.ensures.calm.seen)
+
+pub returns-in_err-room-clause-files : goal.returns-in_err-room-clause-files
+returns-in_err-room-clause-files g c = λ before told after told'. (still_same (g.S.Store.view c.args.store.now) (g.S.Store.view c.room.new.self) c.room.ensures.calm.seen before told after told').files
+
+pub returns-in_err-settle_areas-clause-files : goal.returns-in_err-settle_areas-clause-files
+returns-in_err-settle_areas-clause-files g c = λ before told after told' number.
+    inl (ap (λ fs. get fs number) (c.settle_areas.ensures.files before (c.room.ensures.calm.seen ∙ told) after told'))
+
+pub returns-in_err-tablet-clause-files : goal.returns-in_err-tablet-clause-files
+returns-in_err-tablet-clause-files g c = λ before told after told'.
+    let v0 = g.S.Store.view c.args.store.now in let v1 = g.S.Store.view c.room.new.self in let v2 = g.S.Store.view c.settle_areas.new.store in let v3 = g.S.Store.view c.read_tablet.new.store in
+    let p : IsSettledFrom v0 v1 v2 = record { calm = c.room.ensures.calm; tells = c.settle_areas.ensures.spends.tells; seen = c.in_ok-settle_areas.ensures.seen; like = c.in_ok-settle_areas.ensures.like; moments = c.settle_areas.ensures.any_moment } in
+    (still_blanks before after (p.seen before (c.room.ensures.calm.seen ∙ told) after (sym c.read_tablet.ensures.calm.seen ∙ told'))).files
+
+pub returns-in-Ok-clause-files : goal.returns-in-Ok-clause-files
+returns-in-Ok-clause-files g c = λ before told after told'.
+    let v0 = g.S.Store.view c.args.store.now in let v1 = g.S.Store.view c.room.new.self in let v2 = g.S.Store.view c.settle_areas.new.store in let v3 = g.S.Store.view c.read_tablet.new.store in let v4 = g.S.Store.view c.keep_files.new.store in
+    let p : IsSettledFrom v0 v1 v2 = record { calm = c.room.ensures.calm; tells = c.settle_areas.ensures.spends.tells; seen = c.in_ok-settle_areas.ensures.seen; like = c.in_ok-settle_areas.ensures.like; moments = c.settle_areas.ensures.any_moment } in
+    let m = mid v0 v1 v2 p before told in
+    let blanks = settled_blanks v0 v1 v2 p before told in
+    (still_kept c.in_ok-tablet.tablet.replayed (segments_of g.S.Reader.SealedReader.view c.in_ok-tablet.tablet.files.segments.items) c.deref.result.now (c.deref.ensures.value ∙ c.in_ok-tablet.ensures.numbers) c.in_ok-tablet.ensures.replayed.0 c.in_ok-tablet.ensures.replayed.1.0 c.in_ok-tablet.ensures.has before m.0 blanks (c.in_ok-tablet.ensures.replayed.1.1.1 m.0 m.1).says
+    after (c.keep_files.ensures.kept m.0 (c.read_tablet.ensures.calm.seen ∙ m.1) after told')).files
+
+pub returns-in-Err-clause-files : goal.returns-in-Err-clause-files
+returns-in-Err-clause-files g c = λ before told after told'.
+    let v0 = g.S.Store.view c.args.store.now in let v1 = g.S.Store.view c.room.new.self in let v2 = g.S.Store.view c.settle_areas.new.store in let v3 = g.S.Store.view c.read_tablet.new.store in let v4 = g.S.Store.view c.keep_files.new.store in
+    let p : IsSettledFrom v0 v1 v2 = record { calm = c.room.ensures.calm; tells = c.settle_areas.ensures.spends.tells; seen = c.in_ok-settle_areas.ensures.seen; like = c.in_ok-settle_areas.ensures.like; moments = c.settle_areas.ensures.any_moment } in
+    let m = mid v0 v1 v2 p before told in
+    let blanks = settled_blanks v0 v1 v2 p before told in
+    (still_kept c.in_ok-tablet.tablet.replayed (segments_of g.S.Reader.SealedReader.view c.in_ok-tablet.tablet.files.segments.items) c.deref.result.now (c.deref.ensures.value ∙ c.in_ok-tablet.ensures.numbers) c.in_ok-tablet.ensures.replayed.0 c.in_ok-tablet.ensures.replayed.1.0 c.in_ok-tablet.ensures.has before m.0 blanks (c.in_ok-tablet.ensures.replayed.1.1.1 m.0 m.1).says
+    after (c.keep_files.ensures.kept m.0 (c.read_tablet.ensures.calm.seen ∙ m.1) after (sym c.give_back.ensures.calm.seen ∙ told'))).files
+
+pub returns-in-Ok-clause-readers : goal.returns-in-Ok-clause-readers
+returns-in-Ok-clause-readers g c = λ before told.
+    let v0 = g.S.Store.view c.args.store.now in let v1 = g.S.Store.view c.room.new.self in let v2 = g.S.Store.view c.settle_areas.new.store in let v3 = g.S.Store.view c.read_tablet.new.store in
+    let p : IsSettledFrom v0 v1 v2 = record { calm = c.room.ensures.calm; tells = c.settle_areas.ensures.spends.tells; seen = c.in_ok-settle_areas.ensures.seen; like = c.in_ok-settle_areas.ensures.like; moments = c.settle_areas.ensures.any_moment } in
+    let m = mid v0 v1 v2 p before told in
+    let blanks = settled_blanks v0 v1 v2 p before told in
+    readers_so c.in_ok-tablet.tablet.replayed c.in_ok-tablet.tablet.files.index.map (segments_of g.S.Reader.SealedReader.view c.in_ok-tablet.tablet.files.segments.items) before m.0 blanks c.in_ok-tablet.ensures.has
+    (c.in_ok-tablet.ensures.bytes m.0 m.1) (c.in_ok-tablet.ensures.indexed m.0 m.1)
+
+pub returns-in_err-room-clause-settled : goal.returns-in_err-room-clause-settled
+returns-in_err-room-clause-settled g c = λ is honest image told s b stands. inl c.room.ensures.calm
+
+pub returns-in_err-settle_areas-clause-settled : goal.returns-in_err-settle_areas-clause-settled
+returns-in_err-settle_areas-clause-settled g c = let r = err_from_is_err_and c.from_residual-in_err-settle_areas.result c.from_residual-in_err-settle_areas.ensures.1 in
+    rw (r.1, r.2) (λ is. absurd (store_or_memory is))
+
+pub returns-in_err-tablet-clause-settled : goal.returns-in_err-tablet-clause-settled
+returns-in_err-tablet-clause-settled g c = λ is honest image told s b stands.
+    let v0 = g.S.Store.view c.args.store.now in let v1 = g.S.Store.view c.room.new.self in let v2 = g.S.Store.view c.settle_areas.new.store in let v3 = g.S.Store.view c.read_tablet.new.store in
+    let p : IsSettledFrom v0 v1 v2 = record { calm = c.room.ensures.calm; tells = c.settle_areas.ensures.spends.tells; seen = c.in_ok-settle_areas.ensures.seen; like = c.in_ok-settle_areas.ensures.like; moments = c.settle_areas.ensures.any_moment } in
+    inr (λ left may. like_stands s b image left stands (calm_each (IsLike image) v2 v3 c.read_tablet.ensures.calm (each_like v0 v1 v2 p image told honest) left may))
+
+pub returns-in-Ok-clause-settled : goal.returns-in-Ok-clause-settled
+returns-in-Ok-clause-settled g c = λ is. absurd (no_err _ fault.Memory is)
+
+pub returns-in-Err-clause-settled : goal.returns-in-Err-clause-settled
+returns-in-Err-clause-settled g c = λ is honest image told s b stands.
+    let v0 = g.S.Store.view c.args.store.now in let v1 = g.S.Store.view c.room.new.self in let v2 = g.S.Store.view c.settle_areas.new.store in let v3 = g.S.Store.view c.read_tablet.new.store in let v4 = g.S.Store.view c.keep_files.new.store in
+    let p : IsSettledFrom v0 v1 v2 = record { calm = c.room.ensures.calm; tells = c.settle_areas.ensures.spends.tells; seen = c.in_ok-settle_areas.ensures.seen; like = c.in_ok-settle_areas.ensures.like; moments = c.settle_areas.ensures.any_moment } in
+    let v5 = g.S.Store.view c.give_back.new.store in
+    let calm = calm_then v3 v4 v5 (c.in-Err.ensures.unforgotten (memory_keeps c.in-Err.fault is)) c.give_back.ensures.calm in
+    inr (λ left may. like_stands s b image left stands (calm_each (IsLike image) v2 v5 (calm_then v2 v3 v5 c.read_tablet.ensures.calm calm) (each_like v0 v1 v2 p image told honest) left may))
 
 pub returns-in_err-room-clause-tells : goal.returns-in_err-room-clause-tells
 returns-in_err-room-clause-tells g c = ap is_some c.room.ensures.calm.seen

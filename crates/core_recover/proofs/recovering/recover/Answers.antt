@@ -1,10 +1,10 @@
-use Rattle.std.proofs.Common.{◌≡◌, ◌⊎◌, ◌∙◌, inl, inr, ap, sym, subst}
+use Rattle.std.proofs.Common.{◌≡◌, ◌⊎◌, ◌∙◌, inl, inr, Err, ap, sym, subst}
 use Rattle.dev_traits.specs.View.{EachImage, LeavesOnly}
 use Rattle.version_journal.specs.Images.{HasNoRecord}
 use Rattle.pk_model.specs.Durable.{durable}
 use Rattle.tablet_state.specs.Stands.{Stands}
 use Rattle.tablet_state.specs.State.{reader_faults}
-use Rattle.core_recover.specs.Keeping.{HoldsRecords}
+use Rattle.core_recover.specs.Keeping.{HoldsRecords, ReadsNamed}
 use Rattle.core_recover.specs.declared.faults.OpenFault.TheVariants as fault
 use Rattle.core_recover.proofs.CountFacts.{counted_so, never_fell, rose_ok, rose_one, uncounted_so}
 use Rattle.core_recover.proofs.KeepFacts.{each_left, still_none, still_stands, unfailed}
@@ -71,3 +71,13 @@ pub returns-in-Ok-clause-uncounted : goal.returns-in-Ok-clause-uncounted
 returns-in-Ok-clause-uncounted g c =
     uncounted_so g.S.Store.view (g.S.Store.view c.args.store).faults c.open_store.new.store _ _ c.state_of.ensures.store c.in-Ok.ensures.cause (c.state_of.ensures.maker ∙ c.in-Ok.ensures.unfailed.0)
     (ap reader_faults c.state_of.ensures.segments ∙ c.in-Ok.ensures.unfailed.1)
+
+pub returns-in-Ok-clause-files : goal.returns-in-Ok-clause-files
+returns-in-Ok-clause-files g c = λ before told after told'. c.open_store.ensures.files before told after (ap (λ st. (g.S.Store.view st).seen) (sym c.state_of.ensures.store) ∙ told')
+
+pub returns-in-Ok-clause-readers : goal.returns-in-Ok-clause-readers
+returns-in-Ok-clause-readers g c = λ before told.
+    subst (λ x. ReadsNamed x _ before) (sym c.state_of.ensures.contents) (subst (λ segs. ReadsNamed _ segs before) (sym c.state_of.ensures.segments) (c.in-Ok.ensures.readers before told))
+
+pub returns-in-Err-clause-settled : goal.returns-in-Err-clause-settled
+returns-in-Err-clause-settled g c = λ is. c.in-Err.ensures.settled (ap Err is)
