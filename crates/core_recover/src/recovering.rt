@@ -121,8 +121,8 @@ fn open_store<S: Store>(alloc: Global, store: &mut S) -> Result<Opened<S>, OpenF
 ///
 /// # Errors
 /// `Empty` where the store has no record; `Damaged` where an area of the journal, a named file or a block with a live
-/// row is damaged; `StoreFault`, which the store counted; `Memory`. Each comes with the store. Of several damages one is
-/// told, any of them. Two live rows of one key are no damage: the index has the later one.
+/// row is damaged; `StoreFault`, which the store counted; `Memory`. Each comes with the store. Of several damages any
+/// one is told. Two live rows of one key are no damage: the index has the later one.
 pub fn recover<S: Store>(alloc: Global, store: S) -> Result<State<S>, (S, OpenFault)>
     // Of an honest store that stands for a book as it reads, the state has what lasts of that book.
     ensures book { IsTrue (S.view store).is_honest → Told (S.view store) (λ image. (s : Layout) (b : Book) → Stands s b image
@@ -146,13 +146,13 @@ pub fn recover<S: Store>(alloc: Global, store: S) -> Result<State<S>, (S, OpenFa
     // Damage is told only where an area of the journal says nothing, or what the journal says names what is damaged.
     ensures damaged { IfErr result (λ e. (d : Damaged) → e.1 ≡ OpenFault.Damaged d → Told (S.view store) (λ image. IsDamageOf image d)) }
 
-    // Honest or not: the state holds what the records mean, the store has just the files that they name, and the segments
-    // read these.
+    // Honest or not: the state holds what the records mean, the store has just the files that the kept versions name,
+    // and the segments read these.
     ensures held { IfOk result (λ state. Told (S.view store) (λ before. Told (S.view state.store) (HoldsRecords state.contents before))) }
     ensures readers { IfOk result (λ state. Told (S.view store) (ReadsNamed state.contents state.segments)) }
 
-    // Files alone are forgotten that no record in force names, and only after Ok or where the store failed. What is read of
-    // the areas stays, but that empty ones may be blank; of a store that failed this is said where it is honest.
+    // Files alone are forgotten that no kept version names, and only after Ok or where the store failed. What is read
+    // of the areas stays, but that empty ones may be blank; of a store that failed this is said where it is honest.
     ensures files { Told (S.view store) (λ before. Told (S.view (store_left result)) (λ after. (number : ℕ) → IsKeptOrForgotten before after number)) }
     ensures still { IsTrue (S.view store).is_honest ⊎ IfErr result (λ e. e.1 ≡ OpenFault.StoreFault → ⊥)
         → Told (S.view store) (λ before. Told (S.view (store_left result)) (StillReads before)) }
