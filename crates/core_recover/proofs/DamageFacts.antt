@@ -158,6 +158,12 @@ read_damage (read.Damaged x) d is = cc
 read_damage read.StoreFault d is = absurd (cc is)
 read_damage read.Memory d is = absurd (cc is)
 
+pub memory_whole : (d : Damaged) → fault.Memory ≡ fault.Damaged d → ⊥
+memory_whole d is = cc
+
+pub store_whole : (d : Damaged) → fault.StoreFault ≡ fault.Damaged d → ⊥
+store_whole d is = cc
+
 pub damage_here : (e : ReadFault) (d : Damaged) (P : Damaged → Type 0) → e ≡ read.Damaged d → OnDamage e P → P d
 damage_here e d P is h = subst (λ (x : ReadFault). OnDamage x P) is h
 

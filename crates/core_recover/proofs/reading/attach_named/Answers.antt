@@ -9,7 +9,7 @@ use Rattle.store_files.proofs.FileFacts.{none_failed}
 use Rattle.core_recover.specs.Naming.{AreNamed}
 use Rattle.core_recover.specs.Reading.{named}
 use Rattle.core_recover.proofs.AttachFacts.{all_stored, has_files, numbers_seen, reads_files}
-use Rattle.core_recover.proofs.DamageFacts.{all_reading, all_there, damage_here, footer_damage, read_damage}
+use Rattle.core_recover.proofs.DamageFacts.{all_reading, all_there, damage_here, footer_damage, memory_whole, read_damage}
 use Rattle.core_recover.proofs.IndexingFacts.{on_damage}
 use Rattle.core_recover.proofs.TabletFacts.{cause_memory, want_read}
 use Rattle.core_recover.proofs.reading.attach_named.Goals as goal
@@ -58,3 +58,6 @@ returns-in-Ok-clause-there g c = λ image told.
 pub returns-in-Ok-clause-bytes : goal.returns-in-Ok-clause-bytes
 returns-in-Ok-clause-bytes g c = λ image told.
     all_reading g.S.Reader.SealedReader.view c.args.replayed.now.schema (g.S.Store.view c.args.store.now) c.deref.result.now c.in_ok-segments.segments.items image told c.in_ok-segments.ensures.attached
+
+pub returns-clause-damaged : goal.returns-clause-damaged
+returns-clause-damaged g c = λ d is. absurd (memory_whole d is)

@@ -2,6 +2,7 @@ use Rattle.std.proofs.Common.{◌≡◌, ◌∙◌, inl, inr, ap, sym, subst, Er
 use Rattle.std.proofs.lemmas.Result.{err_from_is_err_and}
 use Rattle.dev_traits.proofs.Moments.{calm_then}
 use Rattle.core_recover.specs.Replaying.{IsReplayed}
+use Rattle.core_recover.proofs.DamageFacts.{memory_whole}
 use Rattle.core_recover.proofs.ClashFacts.{records_agree, unclashed}
 use Rattle.core_recover.proofs.ToldFacts.{damage_told, journal_damage}
 use Rattle.core_recover.proofs.ReadingFacts.{files_there, schema_is, told_of_records}
@@ -72,3 +73,8 @@ returns-clause-bytes g c = λ image told. c.in_ok-files.ensures.bytes image (c.r
 
 pub returns-clause-indexed : goal.returns-clause-indexed
 returns-clause-indexed g c = λ image told. c.in_ok-files.ensures.indexed image (c.read_records.ensures.calm.seen ∙ told)
+
+pub returns-in_err-replayed-clause-damaged : goal.returns-in_err-replayed-clause-damaged
+returns-in_err-replayed-clause-damaged g c =
+    let p = err_from_is_err_and c.from_residual-in_err-replayed.result c.from_residual-in_err-replayed.ensures.1 in
+    rw (p.1, p.2) (λ d is. absurd (memory_whole d is))

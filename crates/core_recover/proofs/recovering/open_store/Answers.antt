@@ -18,6 +18,7 @@ use Rattle.core_recover.proofs.AreaFacts.{files_still}
 use Rattle.core_recover.specs.declared.faults.OpenFault.TheVariants as fault
 use Rattle.dev_traits.proofs.Moments.{calm_then}
 use Rattle.std.specs.FinMap.{get}
+use Rattle.core_recover.proofs.DamageFacts.{memory_whole, store_whole}
 use Rattle.core_recover.proofs.ToldFacts.{damage_back}
 use Rattle.core_recover.proofs.ReadingFacts.{own_so}
 use Rattle.core_recover.proofs.TabletFacts.{err_over, no_err}
@@ -317,3 +318,15 @@ returns-in-Ok-clause-tells g c = c.keep_files.ensures.tells ∙ ap is_some c.rea
 pub returns-in-Err-clause-tells : goal.returns-in-Err-clause-tells
 returns-in-Err-clause-tells g c =
     ap is_some c.give_back.ensures.calm.seen ∙ c.keep_files.ensures.tells ∙ ap is_some c.read_tablet.ensures.calm.seen ∙ c.settle_areas.ensures.spends.tells ∙ ap is_some c.room.ensures.calm.seen
+
+pub returns-in_err-room-clause-damaged : goal.returns-in_err-room-clause-damaged
+returns-in_err-room-clause-damaged g c = let r = err_from_is_err_and c.from_residual.result c.from_residual.ensures.1 in
+    rw (r.1, r.2) (λ d is. absurd (memory_whole d is))
+
+pub returns-in_err-settle_areas-clause-damaged : goal.returns-in_err-settle_areas-clause-damaged
+returns-in_err-settle_areas-clause-damaged g c = let r = err_from_is_err_and c.from_residual-in_err-settle_areas.result c.from_residual-in_err-settle_areas.ensures.1 in
+    rw (r.1, r.2) (λ d is. absurd (store_whole d is))
+
+pub returns-in_err-settle_areas-clause-unforgotten : goal.returns-in_err-settle_areas-clause-unforgotten
+returns-in_err-settle_areas-clause-unforgotten g c = let r = err_from_is_err_and c.from_residual-in_err-settle_areas.result c.from_residual-in_err-settle_areas.ensures.1 in
+    rw (r.1, r.2) (λ kind. absurd kind)
