@@ -19,6 +19,7 @@ use Rattle.rowsets.specs.Live.{Files}
 use Rattle.journal_form.proofs.Parts.{some_is}
 use Rattle.version_journal.specs.Images.{HasNoRecord, IsSaid}
 use Rattle.version_journal.proofs.ReadImages.{says_one}
+use Rattle.tablet_state.specs.Contents.{Contents}
 use Rattle.tablet_state.specs.Stands.{AreSegments, Stands, all_versions, files_in}
 use Rattle.tablet_state.specs.State.{IsInHand, SegmentView, footers_of}
 use Rattle.core_recover.specs.Areas.{BlanksEmpty}
@@ -193,3 +194,7 @@ each_left s b u v each only left may = elim (only.now left may) [
   | inl was ↦ each left was
   | inr stands ↦ stands
 ]
+
+-- what the segments of a state read is told by what it holds
+pub named_readers : {c d : Contents} {segs others : List SegmentView} (before : Image) → c ≡ d → segs ≡ others → ReadsNamed d others before → ReadsNamed c segs before
+named_readers {c} {d} {segs} {others} before p q reads = subst (λ x. ReadsNamed x segs before) (sym p) (subst (λ xs. ReadsNamed d xs before) (sym q) reads)
