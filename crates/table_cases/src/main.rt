@@ -4,6 +4,7 @@
 
 mod books;
 mod cells;
+mod images;
 mod keys;
 mod loads;
 mod report_texts;
@@ -88,6 +89,9 @@ impl Desk {
             "no-a" => self.runs.forget(alloc),
             "fails" => self.runs.fails(alloc, words),
             "run" => self.runs.run(alloc, words),
+            "journal" => self.runs.image.journal(alloc, words),
+            "adopted" => self.runs.image.adopted(alloc, words),
+            "over" => self.runs.over(alloc, words),
             "again" => self.runs.again(alloc, words),
             "spoil" => self.runs.spoil(alloc, words),
             _ => self.read(alloc, call, words),

@@ -1,3 +1,4 @@
+use crate::images::GivenImage;
 use case_texts::text_of;
 use command_line::{WordsFault, read_words, text_for};
 use dev_memory::{Faults, Image, MemInputs, MemSink, MemStore};
@@ -5,8 +6,8 @@ use pk_values::Octets;
 use std::alloc::{AllocError, Global};
 use tablet_run::run;
 
-/// What the inputs `t`, `s` and `a` hold, which takes, puts and calls of the store fail, why the last run ended, and its
-/// store.
+/// What the inputs `t`, `s` and `a` hold, which takes, puts and calls of the store fail, an image that lines gave, why
+/// the last run ended, and its store.
 #[derive(Drop)]
 pub struct Runs {
     table: Vec<u8>,
@@ -15,6 +16,7 @@ pub struct Runs {
     input_fails: Vec<u64>,
     put_fails: Vec<u64>,
     faults: Faults,
+    pub image: GivenImage,
     cause: String,
     store: Option<MemStore>,
 }
@@ -34,6 +36,7 @@ impl Runs {
             input_fails: Vec::new(alloc),
             put_fails: Vec::new(alloc),
             faults: Faults::none(alloc),
+            image: GivenImage::new(alloc),
             cause: String::new(alloc),
             store: None,
         }
@@ -125,8 +128,15 @@ impl Runs {
         self.run_over(alloc, words, store)
     }
 
+    /// `over WORDS`: the same over a store that was left as the image that lines gave.
+    pub fn over(&mut self, alloc: Global, words: &str) -> Result<String, AllocError> {
+        let faults = self.faults(alloc)?;
+        let store = self.image.take_store(alloc, faults)?;
+        self.run_over(alloc, words, store)
+    }
+
     // The image of this number that a crash may leave of the last run's store, with the faults that are listed now.
-    fn image(&self, alloc: Global, pick: u64) -> Result<MemStore, AllocError> {
+    fn left(&self, alloc: Global, pick: u64) -> Result<MemStore, AllocError> {
         match &self.store {
             Some(store) => MemStore::of_image(
                 alloc,
@@ -140,7 +150,7 @@ impl Runs {
     /// `again PICK WORDS`: the same over an image that a crash may leave of the last run's store, by its number.
     pub fn again(&mut self, alloc: Global, words: &str) -> Result<String, AllocError> {
         let (pick, words) = words.split_once(' ').unwrap_or(("0", words));
-        let store = self.image(alloc, pick.parse::<u64>().unwrap_or(0))?;
+        let store = self.left(alloc, pick.parse::<u64>().unwrap_or(0))?;
         self.run_over(alloc, words, store)
     }
 

@@ -50,10 +50,13 @@ use Rattle.reports.proofs.PlainLaws.{get-here}
 use Rattle.reports.proofs.PlainSteps.{load-is, opened-kept, refused-tells}
 use Rattle.core_publish.specs.Replies.{IsOpening, IsStat, told_by_reply}
 use Rattle.tablet_state.specs.State.{Has, Shown, StandsThroughout, Steps, faults_of}
+use Rattle.tablet_state.specs.Contents.{worn_of}
 use Rattle.tablet_state.specs.Turns.{StandsEither}
+use Rattle.tablet_run.specs.Worn.{IsWornOut}
 use Rattle.tablet_run.specs.Doing.{Does, HadNone, HadOne, IsAfter, ShutStands, faults_beside}
 use Rattle.tablet_run.specs.Scanning.{IsIdle, RowsTold}
 use Rattle.tablet_run.specs.declared.lanes.Done.{Done}
+use Rattle.tablet_run.proofs.WornFacts.{load-stays, load-worn, opening-worn, rows-worn, same-worn, stat-worn}
 use Rattle.tablet_run.proofs.DoingFacts.{shut-longer, committed, goes-on, goes-turn, intact-turn, opened, opened-answer, opened-leaves, opening-intact, opening-listed, opening-stays, opening-tells, replay-one, rests-after, scan-refused, stat-intact, stat-leaves, stat-listed, stat-stays, stat-tells, told-turn}
 
 -- ---- counts
@@ -96,14 +99,18 @@ module _ {S : Type 0} (view : S → View) (j : FiledJob) (place : ℕ) (name : L
       → TellsShut old.closed r → new.closed ≡ shut_after old.closed place r → ((p : ℕ) → old.closed ≡ Some p → new ≡ old)
       → new.contents.schema ≡ old.contents.schema → (view new.store).is_honest ≡ (view old.store).is_honest
       → RoseBy (told_by_reply r) (faults_of view old) (faults_of view new)
+      → ((k : ℕ) → r ≡ reply.Worn k → (worn_of old.contents ≡ Some k) × (new ≡ old))
+      → ((k : ℕ) → old.closed ≡ None → worn_of old.contents ≡ Some k → r ≡ reply.Worn k)
       → Does view j place old new (faults_beside view old n) (faults_beside view new m) (record { turn = true; outcome = outcome.Turn r })
-  publish-does old new load r n m read same turn moment intact tells shut stays schema honest rose = record {
+  publish-does old new load r n m read same turn moment intact tells shut stays schema honest rose worn stays_worn = record {
     schema = schema;
     honest = honest;
     rose = subst (λ k. RoseBy (told_by (outcome.Turn r)) (faults_beside view old n) (faults_beside view new k)) (sym same)
         (rose-beside (told_by (outcome.Turn r)) n 0 (faults_of view old) (faults_of view new)
         (subst (λ k. RoseBy k (faults_of view old) (faults_of view new)) (sym (told-turn r)) rose));
     goes = subst (λ c. GoesShut old.closed c (outcome.Turn r)) (sym shut) (goes-turn old.closed place r tells);
+    worn = load-worn old new r tells worn;
+    stays = λ b has k h. load-stays old new r worn stays_worn k h;
     had = inr (
       refl,
       record {
@@ -148,6 +155,8 @@ module _ {S : Type 0} (view : S → View) (j : FiledJob) (place : ℕ) (name : L
     honest = refl;
     rose = by f counts same;
     goes = goes-on old.closed (outcome.Outside (outside_of_make f)) tt;
+    worn = tt;
+    stays = λ b has k h. h;
     had = inl (
       refl,
       record {
@@ -175,6 +184,8 @@ module _ {S : Type 0} (view : S → View) (j : FiledJob) (place : ℕ) (name : L
     honest = refl;
     rose = rose-same (faults_of view old) n;
     goes = goes-on old.closed (outcome.Load f) tt;
+    worn = tt;
+    stays = λ b has k h. h;
     had = inl (
       refl,
       record {
@@ -237,6 +248,8 @@ module _ {S : Type 0} (view : S → View) (j : FiledJob) (place : ℕ) (want : W
         honest = rests.calm.honest ∙ calm.honest;
         rose = rose-beside (told_by o) n 0 (faults_of view old) (faults_of view new) (subst (λ k. RoseBy (told_by o) k (faults_of view new)) faults rose);
         goes = subst (λ c. GoesShut old.closed c o) (sym same) (goes-on old.closed o (rows-open v o of).0);
+        worn = rows-worn (IsWornOut new) v o of;
+        stays = λ b has k h. same-worn old new (rests.contents ∙ contents) same k h;
         had = inr (
           refl,
           record {
@@ -280,6 +293,8 @@ module _ {S : Type 0} (view : S → View) (j : FiledJob) (place : ℕ) (want : W
         rose = rose-beside (told_by (outcome.Turn r)) n 0 (faults_of view old) (faults_of view new)
             (subst (λ k. RoseBy (told_by (outcome.Turn r)) (faults_of view old) k) (sym faults) (subst (λ k. RoseBy k (faults_of view old) (faults_of view old)) (sym (opening-tells r only)) rose-self));
         goes = subst (λ c. GoesShut old.closed c (outcome.Turn r)) (sym shut) (goes-turn old.closed place r tells);
+        worn = opening-worn (IsWornOut new) r only;
+        stays = λ b has k h. same-worn old new contents closed k h;
         had = inr (
           refl,
           record {
@@ -319,6 +334,8 @@ module _ {S : Type 0} (view : S → View) (j : FiledJob) (place : ℕ) (is : j.j
         honest = refl;
         rose = subst (λ k. RoseBy k (faults_beside view st n) (faults_beside view st n)) (sym (stat-tells r only)) (rose-same (faults_of view st) n);
         goes = subst (λ c. GoesShut st.closed c (outcome.Turn r)) stays (goes-turn st.closed place r tells);
+        worn = stat-worn (IsWornOut st) r only;
+        stays = λ b has k h. h;
         had = inr (
           refl,
           record {

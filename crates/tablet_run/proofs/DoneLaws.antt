@@ -4,6 +4,7 @@ use Rattle.std.proofs.Common.{◌≡◌, refl, ap, sym, subst, ◌∙◌, ◌⊎
 use Rattle.dev_traits.specs.Causes.{Counts, RoseBy}
 use Rattle.dev_traits.specs.Image.{Image}
 use Rattle.dev_traits.specs.View.{Calm, View, EachImage}
+use Rattle.dev_traits.proofs.Moments.{calm_then}
 use Rattle.pk_values.specs.Schemas.{Layout}
 use Rattle.pk_model.specs.declared.books.Book.{Book}
 use Rattle.pk_model.specs.Durable.{durable}
@@ -18,6 +19,7 @@ use Rattle.reports.specs.Plain.{PhasesRise}
 use Rattle.reports.specs.Progress.{HasCome, IsRun}
 use Rattle.reports.specs.Notes.{turns_in}
 use Rattle.reports.proofs.BearingLaws.{borne-more, borne-none}
+use Rattle.reports.proofs.PlainLaws.{outcomes-append}
 use Rattle.reports.proofs.ProgressLaws.{add-none, add-one-turn, come-none}
 use Rattle.reports.proofs.ProgressRuns.{come-goes, come-runs}
 use Rattle.tablet_state.specs.Stands.{Stands}
@@ -25,7 +27,9 @@ use Rattle.tablet_state.specs.State.{Has, Rests, Shown, faults_of, reader_faults
 use Rattle.tablet_run.specs.Doing.{Does, HadBy, HadNone, HadOne, HasDone, IsAfter, ShutStands, faults_beside}
 use Rattle.tablet_run.specs.Stores.{HasOpened, Opens, Runs}
 use Rattle.tablet_run.specs.declared.lanes.Done.{Done}
+use Rattle.tablet_run.specs.Worn.{BearsOut, IsWornOut, OnWorn}
 use Rattle.tablet_run.proofs.DoingFacts.{calm-shut}
+use Rattle.tablet_run.proofs.WornFacts.{all-worn-go, number-borne, worn-goes}
 
 module _ {S : Type 0} (view : S → View) (s : Layout) (opened : Shown S) where
   -- no job was done
@@ -38,6 +42,8 @@ module _ {S : Type 0} (view : S → View) (s : Layout) (opened : Shown S) where
         come = subst (λ c. HasCome s (HadBy view opened) (IsAfter view s opened) c [] [] []) (sym unshut)
             (come-none s (HadBy view opened) (IsAfter view s opened) (λ b has. record { has = has; shut = λ p e. absurd (none-some p (sym unshut ∙ e)) }));
         borne = subst (λ c. AreBorneOut before before c []) (sym unshut) (borne-none before before (omega arith));
+        ended = tt;
+        worn = λ b has. tt;
         few = omega arith;
         each = refl;
       }))
@@ -65,6 +71,11 @@ module _ {S : Type 0} (view : S → View) (s : Layout) (opened : Shown S) where
         honest = does.honest ∙ h.honest;
         come = come;
         borne = subst (AreBorneOut start now new.closed) (sym outcomes_are) (borne-more start mid now old.closed new.closed outcomes d.outcome h.borne does.rose does.goes);
+        ended = subst (AllByRecursion (λ o. OnWorn o (λ n. 2 ^ 62 ≤ n))) (sym outcomes_are)
+            (outcomes-append (λ o. OnWorn o (λ n. 2 ^ 62 ≤ n)) outcomes d.outcome h.ended (worn-goes (IsWornOut new) (λ n. 2 ^ 62 ≤ n) (λ n w. w.ended) d.outcome does.worn));
+        worn = λ b has. let after = (h.come.over b has).1 in subst (AllByRecursion (λ o. OnWorn o (IsWornOut new))) (sym outcomes_are)
+            (outcomes-append (λ o. OnWorn o (IsWornOut new)) outcomes d.outcome
+            (all-worn-go (IsWornOut old) (IsWornOut new) (does.stays (replay s b 1 h.come.seen) after.has) outcomes (h.worn b has)) does.worn);
         few = few;
         each = omega (arith, jobs_count, outs_count, each, sizes);
       }
@@ -98,11 +109,11 @@ module _ {S : Type 0} (view : S → View) (s : Layout) (opened now : Shown S) (s
     (h : HasDone view s opened now start count jobs order outcomes) where
   -- jobs that were done ran over the store that the tablet is given up for
   pub done-runs : PhasesRise jobs → (left : View) → RoseBy 0 count left.faults
+      → Calm (view now.store) left
       → ((b : Book) → Has view now b → now.closed ≡ None → EachImage left (Stands s (durable b)))
-      → ((p : ℕ) (b : Book) (seen : List Entry) → ShutStands (view now.store) s b seen p → ShutStands left s b seen p)
       → (IsTrue left.is_honest → (image : Image) × (left.seen ≡ Some image) × left.may_leave image)
       → Runs s (HadBy view opened) start left jobs order outcomes
-  done-runs rise left counts stands shut reads = record {
+  done-runs rise left counts calm stands reads = record {
     turns = turns_in h.come.notes;
     entries = h.come.seen;
     closed = now.closed;
@@ -111,12 +122,15 @@ module _ {S : Type 0} (view : S → View) (s : Layout) (opened now : Shown S) (s
     run = subst (AllByRecursion IsRun) (sym h.come.gone.outcomes_are) h.come.gone.run;
     shuts = h.come.shuts;
     borne = record { rose = let rose = h.borne.rose in omega (arith, counts, rose); shut = h.borne.shut; opened = h.borne.opened };
+    ended = h.ended;
     over = λ b opens. let over = h.come.over b opens in record {
       run = come-runs s (HadBy view opened) (IsAfter view s now) now.closed jobs order outcomes h.come rise b over.0;
       intact = subst (AllByRecursion TellsIntact) (sym h.come.gone.outcomes_are) over.0.intact;
+      worn = all-worn-go (IsWornOut now) (BearsOut left)
+          (λ n w. number-borne view now (replay s b 1 h.come.seen) left n over.1.has w calm reads) outcomes (h.worn b opens);
       images = record {
         opened = λ e. stands (replay s b 1 h.come.seen) over.1.has e;
-        shut = λ p e. shut p b h.come.seen (over.1.shut p e);
+        shut = λ p e. calm-shut (view now.store) left calm s b h.come.seen p (over.1.shut p e);
       };
       again = λ e honest. let read = reads honest in
           let stood = stands (replay s b 1 h.come.seen) over.1.has e read.0 read.2 in
@@ -140,6 +154,7 @@ runs-from view s store st left jobs order outcomes opened runs = record {
   run = runs.run;
   shuts = runs.shuts;
   borne = borne-earlier (view store).faults (faults_of view st) left.faults runs.closed outcomes opened.counts runs.borne;
+  ended = runs.ended;
   over = λ b opens. runs.over b (opened.books b opens);
 }
 
@@ -172,6 +187,7 @@ module _ {S : Type 0} (view : S → View) (st0 st1 st2 st3 : Shown S) (rests : R
     run = base.run;
     shuts = base.shuts;
     borne = borne-earlier (faults_of view st0) (faults_beside view st1 m1) left.faults base.closed outcomes (count-begun (faults_of view st0) (faults_of view st1) m1 faults) base.borne;
+    ended = base.ended;
     over = λ b had. base.over b (has b had);
   })
     where
@@ -184,8 +200,8 @@ module _ {S : Type 0} (view : S → View) (st0 st1 st2 st3 : Shown S) (rests : R
       base : Runs st1.contents.schema (HadBy view st1) (faults_beside view st1 m1) left jobs order outcomes
       base = done-runs view st1.contents.schema st1 st2 (faults_beside view st1 m1) (faults_beside view st2 m2) jobs order outcomes h rise left
           (count-left (view st3.store).faults st3.maker_faults (reader_faults st3.segments) (faults_beside view st2 m2) left.faults after counts)
+          (calm_then (view st2.store) (view st3.store) left over_rests.calm calm)
           (λ b had unshut. subst (λ t. EachImage left (Stands t (durable b))) kept (stands b (over_has b had) (over_rests.closed ∙ unshut)))
-          (λ p b seen shut. calm-shut (view st3.store) left calm st1.contents.schema b seen p (calm-shut (view st2.store) (view st3.store) over_rests.calm st1.contents.schema b seen p shut))
           reads
 
   -- the lane did none, and the tablet is as it was

@@ -30,6 +30,7 @@ use Rattle.script_text.specs.Texts.{rows_text}
 use Rattle.script_text.specs.declared.outcomes.Outcome.{Outcome}
 use Rattle.script_text.specs.declared.outcomes.Outcome.TheVariants as outcome
 use Rattle.reports.specs.Bearing.{TellsIntact, told_by}
+use Rattle.tablet_state.specs.Contents.{worn_of}
 use Rattle.tablet_state.specs.State.{Has, Rests, Shown, StandsThroughout, Steps, faults_of}
 use Rattle.tablet_run.specs.Doing.{Does, faults_beside}
 use Rattle.tablet_run.proofs.DoingLaws.{publish-does, unmade-does}
@@ -141,12 +142,14 @@ pub published-does : {S : Type 0} (view : S → View) (j : FiledJob) (place : �
     → told.TellsShut old.closed r → new.closed ≡ told.shut_after old.closed place r → ((p : ℕ) → old.closed ≡ Some p → new ≡ old)
     → new.contents.schema ≡ old.contents.schema → (view new.store).is_honest ≡ (view old.store).is_honest
     → RoseBy (told_by_reply r) (faults_of view old) (faults_of view new)
+    → ((k : ℕ) → r ≡ reply.Worn k → (worn_of old.contents ≡ Some k) × (new ≡ old))
+    → ((k : ℕ) → old.closed ≡ None → worn_of old.contents ≡ Some k → r ≡ reply.Worn k)
     → Does view j place old new (faults_beside view old n) (faults_beside view new m) (record { turn = true; outcome = outcome.Turn r })
-published-does view j place name is old new load given r n m read same count turn moment intact tells shut stays schema honest rose =
+published-does view j place name is old new load given r n m read same count turn moment intact tells shut stays schema honest rose worn stays_worn =
     publish-does view j place name is old new load r n m read count
     (subst (λ l. (b : Book) → Has view old b → Steps view new b place (call.Load l) r) same turn)
     (subst (λ l. (b : Book) → Has view old b → old.closed ≡ None → StandsThroughout old.contents.schema b place (call.Load l) (view old.store) (view new.store)) same moment)
-    intact (tells-shut old.closed r tells) (shut ∙ same-shut old.closed place r) stays schema honest rose
+    intact (tells-shut old.closed r tells) (shut ∙ same-shut old.closed place r) stays schema honest rose worn stays_worn
 
 -- one whose files weren't made
 pub unmade : {S : Type 0} (view : S → View) (j : FiledJob) (place : ℕ) (name : List ℕ) → j.job.act ≡ act.Load name

@@ -24,6 +24,7 @@ use Rattle.reports.specs.Shutting.{ShutsBy, TellsShut, shut_after}
 use Rattle.tablet_state.specs.Stands.{Stands}
 use Rattle.tablet_state.specs.State.{Has, Shown, faults_of}
 use Rattle.tablet_state.specs.Turns.{StandsEither}
+use Rattle.tablet_run.specs.Worn.{IsWornOut, OnWorn}
 use Rattle.tablet_run.specs.declared.lanes.Done.{Done}
 
 -- ---- a tablet after a history
@@ -62,12 +63,15 @@ pub record HadOne {S : Type 0} (view : S → View) (s : Layout) (j : FiledJob) (
   pub shut : new.closed ≡ shut_after old.closed place reply
   pub over : (b : Book) (seen : List Entry) → place ≡ length seen + 1 → IsAfter view s old b seen → Turns s (IsAfter view s new) b seen call reply o
 
--- What a job does at the next place: the schema stays, and whether the store is honest; each fault that it tells was counted, and it had one turn or none.
+-- What a job does at the next place: the schema stays, and whether the store is honest; each fault that it tells was counted; a number at its end
+-- that it tells is the tablet's, and a tablet that has one stays so; and it had one turn or none.
 pub record Does {S : Type 0} (view : S → View) (j : FiledJob) (place : ℕ) (old new : Shown S) (before now : ℕ) (d : Done) : Type 0 where
   pub schema : new.contents.schema ≡ old.contents.schema
   pub honest : (view new.store).is_honest ≡ (view old.store).is_honest
   pub rose : RoseBy (told_by d.outcome) before now
   pub goes : GoesShut old.closed new.closed d.outcome
+  pub worn : OnWorn d.outcome (IsWornOut new)
+  pub stays : (b : Book) → Has view old b → (n : ℕ) → IsWornOut old n → IsWornOut new n
   pub had : ((d.turn ≡ false) × HadNone view old.contents.schema j old new d.outcome)
       ⊎ ((d.turn ≡ true) × HadOne view old.contents.schema j place old new d.outcome)
 
@@ -83,5 +87,7 @@ pub record HasDone {S : Type 0} (view : S → View) (s : Layout) (opened now : S
   pub honest : (view now.store).is_honest ≡ (view opened.store).is_honest
   pub come : HasCome s (HadBy view opened) (IsAfter view s now) now.closed jobs order outcomes
   pub borne : AreBorneOut before count now.closed outcomes
+  pub ended : AllByRecursion (λ o. OnWorn o (λ n. 2 ^ 62 ≤ n)) outcomes
+  pub worn : (b : Book) → Has view opened b → AllByRecursion (λ o. OnWorn o (IsWornOut now)) outcomes
   pub few : length order ≤ length jobs
   pub each : length outcomes ≡ length jobs

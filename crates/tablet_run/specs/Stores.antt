@@ -1,5 +1,5 @@
 -- What a run over a store leaves, and how its report stands to it.
-use Rattle.std.specs.Prelude.{◌≡◌, ◌≢◌, ◌⊎◌, ℕ, List, map, Option, Some, None, IsTrue}
+use Rattle.std.specs.Prelude.{◌≡◌, ◌≢◌, ◌⊎◌, ℕ, ◌^◌, ◌≤◌, List, map, Option, Some, None, IsTrue}
 use Rattle.std.specs.List.{AllByRecursion}
 use Rattle.dev_traits.specs.Causes.{RoseBy}
 use Rattle.dev_traits.specs.Image.{Image}
@@ -20,6 +20,7 @@ use Rattle.version_journal.specs.Images.{HasNoRecord}
 use Rattle.tablet_state.specs.Stands.{Stands}
 use Rattle.tablet_state.specs.State.{Has, Shown, faults_of}
 use Rattle.tablet_run.specs.Doing.{ShutStands}
+use Rattle.tablet_run.specs.Worn.{BearsOut, OnWorn}
 use Rattle.tablet_run.specs.declared.causes.Cause.{Cause}
 use Rattle.tablet_run.specs.declared.causes.Cause.TheVariants as cause
 
@@ -42,16 +43,19 @@ pub record IsLeft (view : View) (s : Layout) (b : Book) (entries : List Entry) (
   pub opened : closed ≡ None → EachImage view (Stands s (durable (replay s b 1 entries)))
   pub shut : (p : ℕ) → closed ≡ Some p → ShutStands view s b entries p
 
--- The history of a run over one book: each reply is one that the book may give, the rows are the book's, no damage is told, and the store
--- that is left stands for what the history makes of the book. Where no fault closed the tablet, it is opened again with that book.
+-- The history of a run over one book: each reply is one that the book may give, the rows are the book's, no damage is told, each number at its
+-- end is one of the store's that is left, and this store stands for what the history makes of the book. Where no fault closed the tablet, it is
+-- opened again with that book.
 pub record RunsOver (s : Layout) (b : Book) (jobs : List FiledJob) (turns : List Turn) (entries : List Entry) (outcomes : List Outcome) (closed : Option ℕ) (left : View) : Type 0 where
   pub run : HasRun s b jobs turns entries outcomes
   pub intact : AllByRecursion TellsIntact outcomes
+  pub worn : AllByRecursion (λ o. OnWorn o (BearsOut left)) outcomes
   pub images : IsLeft left s b entries closed
   pub again : closed ≡ None → IsTrue left.is_honest → Opens left s (durable (replay s b 1 entries))
 
 -- A run of jobs over a store that begins with one of these books, from this count of its faults on. Over every store the turns fit the script,
--- each job is run, each reply tells that the tablet was closed exactly where an earlier one closed it, and the faults that are told were counted.
+-- each job is run, each reply tells that the tablet was closed exactly where an earlier one closed it, the faults that are told were counted, and
+-- a number that is told to have come to its end is 2^62 at least.
 pub record Runs (s : Layout) (Opened : Book → Type 0) (before : ℕ) (left : View) (jobs : List FiledJob) (order : List Item) (outcomes : List Outcome) : Type 0 where
   pub turns : List Turn
   pub entries : List Entry
@@ -61,6 +65,7 @@ pub record Runs (s : Layout) (Opened : Book → Type 0) (before : ℕ) (left : V
   pub run : AllByRecursion IsRun outcomes
   pub shuts : ShutsBy None 1 entries closed
   pub borne : AreBorneOut before left.faults closed outcomes
+  pub ended : AllByRecursion (λ o. OnWorn o (λ n. 2 ^ 62 ≤ n)) outcomes
   pub over : (b : Book) → Opened b → RunsOver s b jobs turns entries outcomes closed left
 
 -- ---- a store that was not opened, or not used

@@ -16,7 +16,7 @@ returns-in-Ok g c = λ j name is read.
     (g.S.Maker.FileMaker.view c.args.maker.now).faults (g.S.Maker.FileMaker.view c.prepare.new.maker).faults read c.in-Ok.ensures.load
     (well-made c.in-Ok.prepared (g.S.Maker.FileMaker.view c.args.maker.now).faults (g.S.Maker.FileMaker.view c.prepare.new.maker).faults c.in-Ok.ensures.cause)
     c.publish.ensures.turn c.publish.ensures.any_moment c.publish.ensures.intact c.publish.ensures.tells c.publish.ensures.shut c.publish.ensures.closed
-    c.publish.ensures.contents c.publish.ensures.honest c.publish.ensures.faults
+    c.publish.ensures.contents c.publish.ensures.honest c.publish.ensures.faults c.publish.ensures.worn c.publish.ensures.stays_worn
 
 pub returns-in-Err : goal.returns-in-Err
 returns-in-Err g c = λ j name is read.
