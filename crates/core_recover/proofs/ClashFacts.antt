@@ -120,11 +120,11 @@ some_one x y e = cc
 
 goes_agree : (rs : List Record) (s t : Standing) → IsTold s → Agrees s → goes_on rs (Some s) ≡ Some t → Agrees t
 goes_agree [] s t told agrees h = subst Agrees (some_one s t h) agrees
-goes_agree (r ∷ rs) s t told agrees h = go (step s r) refl h
+goes_agree (r ∷ rs) s t told agrees h = go (step s r) refl h (λ x next on more. goes_agree rs x t next on more)
   where
-    go : (o : Option Standing) → step s r ≡ o → goes_on rs o ≡ Some t → Agrees t
-    go None e k = let none = goes_on-none rs in absurd (cc (k, none))
-    go (Some x) e k = goes_agree rs x t (told_more s x r told e) (step_agrees s x r told agrees e) k
+    go : (o : Option Standing) → step s r ≡ o → goes_on rs o ≡ Some t → ((x : Standing) → IsTold x → Agrees x → goes_on rs (Some x) ≡ Some t → Agrees t) → Agrees t
+    go None e k rest = let none = goes_on-none rs in absurd (cc (k, none))
+    go (Some x) e k rest = rest x (told_more s x r told e) (step_agrees s x r told agrees e) k
 
 begun_agrees : (r : Record) (s : Standing) → begun r ≡ Some s → Agrees s
 begun_agrees (Create form schema) s h =

@@ -139,7 +139,7 @@ module _ {R : Type 0} (view : R → ReaderView) (s : Layout) (v : View) where
 
   there_of : (o : Option (List ℕ)) → IsSome o → (bytes : List ℕ) × (o ≡ Some bytes)
   there_of (Some bytes) is = (bytes, refl)
-  there_of None is = absurd is
+  there_of None is = absurd (cc is)
 
   one_there : (files : List NamedFile) (segs : List (Segment R)) (image : Image) (f : NewFile) → v.seen ≡ Some image → AreAttached view s v files segs → IsListed files f → IsThere s image f
   one_there files segs image f told are (i, at) =

@@ -20,6 +20,7 @@ use Rattle.journal_form.proofs.Parts.{some_is}
 use Rattle.version_journal.specs.Images.{HasNoRecord, IsSaid}
 use Rattle.version_journal.proofs.ReadImages.{says_one}
 use Rattle.tablet_state.specs.Stands.{AreSegments, Stands, all_versions, files_in}
+use Rattle.tablet_state.specs.Contents.{Contents}
 use Rattle.tablet_state.specs.State.{IsInHand, SegmentView, footers_of}
 use Rattle.core_recover.specs.Areas.{BlanksEmpty}
 use Rattle.core_recover.specs.Damages.{kept_files}
@@ -167,6 +168,9 @@ readers_so r codes segs before mid blanks has reading indexed = record {
     back : (gs : List SegmentView) → AllByRecursion (IsReading mid) gs → AllByRecursion (IsReading before) gs
     back [] h = tt
     back (g ∷ gs) h = (record { bytes = h.0.bytes ∙ ap (λ fs. get fs g.number) blanks.files }, back gs h.1)
+
+pub readers_of : (c d : Contents) (xs ys : List SegmentView) (before : Image) → c ≡ d → xs ≡ ys → ReadsNamed d ys before → ReadsNamed c xs before
+readers_of c d xs ys before same segs reads = subst (λ (x : Contents). ReadsNamed x xs before) (sym same) (subst (λ (gs : List SegmentView). ReadsNamed d gs before) (sym segs) reads)
 
 -- ---- faults
 

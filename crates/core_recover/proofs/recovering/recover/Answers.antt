@@ -7,7 +7,7 @@ use Rattle.tablet_state.specs.State.{reader_faults}
 use Rattle.core_recover.specs.Keeping.{HoldsRecords, ReadsNamed}
 use Rattle.core_recover.specs.declared.faults.OpenFault.TheVariants as fault
 use Rattle.core_recover.proofs.CountFacts.{counted_so, never_fell, rose_ok, rose_one, uncounted_so}
-use Rattle.core_recover.proofs.KeepFacts.{each_left, still_none, still_stands, unfailed}
+use Rattle.core_recover.proofs.KeepFacts.{each_left, readers_of, still_none, still_stands, unfailed}
 use Rattle.core_recover.proofs.TabletFacts.{no_err}
 use Rattle.core_recover.proofs.recovering.recover.Goals as goal
 
@@ -76,8 +76,7 @@ pub returns-in-Ok-clause-files : goal.returns-in-Ok-clause-files
 returns-in-Ok-clause-files g c = λ before told after told'. c.open_store.ensures.files before told after (ap (λ st. (g.S.Store.view st).seen) (sym c.state_of.ensures.store) ∙ told')
 
 pub returns-in-Ok-clause-readers : goal.returns-in-Ok-clause-readers
-returns-in-Ok-clause-readers g c = λ before told.
-    subst (λ x. ReadsNamed x _ before) (sym c.state_of.ensures.contents) (subst (λ segs. ReadsNamed _ segs before) (sym c.state_of.ensures.segments) (c.in-Ok.ensures.readers before told))
+returns-in-Ok-clause-readers g c = λ before told. readers_of _ _ _ _ before c.state_of.ensures.contents c.state_of.ensures.segments (c.in-Ok.ensures.readers before told)
 
 pub returns-in-Err-clause-settled : goal.returns-in-Err-clause-settled
 returns-in-Err-clause-settled g c = λ is. c.in-Err.ensures.settled (ap Err is)
