@@ -25,7 +25,7 @@ use Rattle.partial_loads.specs.Folds.{apply, change_at, overlays}
 use Rattle.partial_loads.specs.Folded.{HasCode, folded_keys, rise_strictly}
 use Rattle.partial_loads.specs.Lines.{IsShortKey}
 use Rattle.partial_loads.specs.Making.{HaveChanges, made_rows}
-use Rattle.partial_loads.specs.Olds.{AreOlds, AreOldsOf, MadeRowsFit, OldsHaveMap, OldsMakeRows, Row, made_of, map_of}
+use Rattle.partial_loads.specs.Olds.{AreAllOf, AreOlds, AreOldsOf, MadeRowsFit, OldsHaveMap, OldsMakeRows, Row, made_of, map_of}
 use Rattle.partial_loads.proofs.FoldFacts.{load_is_changes, old_row_unasked}
 use Rattle.partial_loads.proofs.FoldedFacts.{not-among, skip-first}
 use Rattle.partial_loads.proofs.MakeFacts.{folded_have_changes}
@@ -78,7 +78,7 @@ Above s k [] = ⊤
 Above s k (row ∷ rows) = T (is_lt (key_cmp k (key_of s row)))
 
 module _ (s : Layout) (load : Load) (clean : schema_fault s.columns s.keys ≡ None) (lawful : IsLawful s load) where
-  fit : (fs : List Folded) (os : List (Option Row)) → HaveChanges load fs → AllByRecursion (HasCode s) fs → AreOlds s fs os
+  pub fit : (fs : List Folded) (os : List (Option Row)) → HaveChanges load fs → AllByRecursion (HasCode s) fs → AreOlds s fs os
       → All (λ row. IsTrue (fits_row s row)) (made_of s load.given fs os)
   fit [] os have codes olds = All-nil (λ row. IsTrue (fits_row s row))
   fit (f ∷ fs) [] have codes olds = absurd olds
@@ -90,7 +90,7 @@ module _ (s : Layout) (load : Load) (clean : schema_fault s.columns s.keys ≡ N
       go (Some row) is more =
           All-cons (λ row. IsTrue (fits_row s row)) row (made_of s load.given fs os) (made-lawful s load f o row clean lawful have.0 (old-lawful s f o codes.0.key olds.0) is).fits more
 
-  key-is : (f : Folded) (o : Option Row) (row : Row) → f.change ≡ change_at load.given None load.ops f.key → HasCode s f
+  pub key-is : (f : Folded) (o : Option Row) (row : Row) → f.change ≡ change_at load.given None load.ops f.key → HasCode s f
       → IfSome o (λ row. IsTrue (fits_row s row) × (key_of s row ≡ f.key)) → apply s load.given None f.key f.change o ≡ Some row → key_of s row ≡ f.key
   key-is f o row have code old is = (made-lawful s load f o row clean lawful have (old-lawful s f o code.key old) is).key_first
 
@@ -111,7 +111,7 @@ module _ (s : Layout) (load : Load) (clean : schema_fault s.columns s.keys ≡ N
       go (Some row) is more =
           subst (λ q. T (is_lt (key_cmp k q))) (sym (key-is f o row have.0 codes.0 olds.0 is)) (run.first (is_lt (key_cmp k f.key)) (rise_strictly (f.key ∷ folded_keys fs)) rise)
 
-  rises : (fs : List Folded) (os : List (Option Row)) → T (rise_strictly (folded_keys fs)) → HaveChanges load fs → AllByRecursion (HasCode s) fs → AreOlds s fs os
+  pub rises : (fs : List Folded) (os : List (Option Row)) → T (rise_strictly (folded_keys fs)) → HaveChanges load fs → AllByRecursion (HasCode s) fs → AreOlds s fs os
       → RowsRise s (made_of s load.given fs os)
   rises [] os rise have codes olds = tt
   rises (f ∷ fs) [] rise have codes olds = absurd olds
@@ -161,12 +161,12 @@ not-there (f ∷ fs) (o ∷ os) k h = go o (eq_by_cmp key_cmp k f.key) refl h (n
     go (Some row) false e h more = get-insert key_total (map_of fs os) f.key row k ∙ ap (λ t. cond t (Some row) (get (map_of fs os) k)) e ∙ more h
 
 -- a map that has the same at all keys that are named
-others-same : (m n : Rows) (fs : List Folded) (os : List (Option Row)) → ((k : List Value) → is_among (folded_keys fs) k ≡ true → get n k ≡ get m k) → AreOldsOf m fs os → AreOldsOf n fs os
+others-same : (m n : Rows) (fs : List Folded) (os : List (Option Row)) → ((k : List Value) → is_among (folded_keys fs) k ≡ true → get n k ≡ get m k) → AreAllOf m fs os → AreAllOf n fs os
 others-same m n [] [] same h = tt
 others-same m n [] (o ∷ os) same h = h
 others-same m n (f ∷ fs) [] same h = h
 others-same m n (f ∷ fs) (o ∷ os) same h = (
-  λ asks. h.0 asks ∙ sym (same f.key (ap (λ t. t || is_among (folded_keys fs) f.key) (itself f.key))),
+  h.0 ∙ sym (same f.key (ap (λ t. t || is_among (folded_keys fs) f.key) (itself f.key))),
   others-same m n fs os (λ k among. same k (or_true (eq_by_cmp key_cmp k f.key) (is_among (folded_keys fs) k) among)) h.1,
 )
   where
@@ -178,16 +178,16 @@ tail-rises : (k : List Value) (ks : List (List Value)) → T (rise_strictly (k �
 tail-rises k [] t = tt
 tail-rises k (j ∷ ks) t = run.second (is_lt (key_cmp k j)) (rise_strictly (j ∷ ks)) t
 
-of_map : (fs : List Folded) (os : List (Option Row)) (s : Layout) → T (rise_strictly (folded_keys fs)) → AreOlds s fs os → AreOldsOf (map_of fs os) fs os
+of_map : (fs : List Folded) (os : List (Option Row)) (s : Layout) → T (rise_strictly (folded_keys fs)) → AreOlds s fs os → AreAllOf (map_of fs os) fs os
 of_map [] [] s rise h = tt
 of_map [] (o ∷ os) s rise h = h
 of_map (f ∷ fs) [] s rise h = h
 of_map (f ∷ fs) (None ∷ os) s rise h = (
-  λ asks. sym (not-there fs os f.key (not-among f.key (folded_keys fs) rise)),
+  sym (not-there fs os f.key (not-among f.key (folded_keys fs) rise)),
   of_map fs os s (tail-rises f.key (folded_keys fs) rise) h.1,
 )
 of_map (f ∷ fs) (Some row ∷ os) s rise h = (
-  λ asks. sym (get-insert key_total (map_of fs os) f.key row f.key ∙ ap (λ t. cond t (Some row) (get (map_of fs os) f.key)) (itself f.key)),
+  sym (get-insert key_total (map_of fs os) f.key row f.key ∙ ap (λ t. cond t (Some row) (get (map_of fs os) f.key)) (itself f.key)),
   others-same (map_of fs os) (insert (map_of fs os) f.key row) fs os other (of_map fs os s (tail-rises f.key (folded_keys fs) rise) h.1),
 )
   where
@@ -214,5 +214,13 @@ keys-first s (f ∷ fs) (Some old ∷ os) h k row is =
     go more true e is = ap (key_of s) (sym (some_same old row is)) ∙ h.0.1 ∙ sym (tells_apart key_exact k f.key e)
     go more false e is = more is
 
+of_all : (m : Rows) (fs : List Folded) (os : List (Option Row)) → AreAllOf m fs os → AreOldsOf m fs os
+of_all m [] [] h = tt
+of_all m [] (o ∷ os) h = h
+of_all m (f ∷ fs) [] h = h
+of_all m (f ∷ fs) (o ∷ os) h = (λ asks. h.0, of_all m fs os h.1)
+
 pub olds_have_map : OldsHaveMap
-olds_have_map s load folded olds are h = (keys-first s folded olds h, of_map folded olds s are.rise h)
+olds_have_map s load folded olds are h =
+    let all = of_map folded olds s are.rise h in
+    (keys-first s folded olds h, of_all (map_of folded olds) folded olds all, all)
