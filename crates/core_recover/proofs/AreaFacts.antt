@@ -8,7 +8,7 @@ use Rattle.dev_traits.specs.Image.{Image, area_of, file, with_area, Same, Blanke
 use Rattle.dev_traits.specs.View.{View, Told, EachImage, Leaves, LeavesOnly, Calm, ReadsElsewhere}
 use Rattle.dev_traits.proofs.Moments.{calm_before, calm_leaves, leaves_by, leaves_only_here, leaves_only_then, leaves_then}
 use Rattle.gated_log.specs.Log.{IsSynced}
-use Rattle.core_recover.specs.Areas.{BlanksEmpty, BlanksIn, IsLike, IsSyncedOrEmpty}
+use Rattle.core_recover.specs.Areas.{BlanksEmpty, BlanksIn, IsEmptyOrBlank, IsLike, IsSyncedOrEmpty, SameFiles}
 
 pub some_one : {X : Type 0} (x y : X) → Some x ≡ Some y → x ≡ y
 some_one x y e = cc
@@ -135,7 +135,7 @@ either_elsewhere a b u v apart tells call elsewhere was after told =
 -- an area that is blanked is synced
 module _ (a : ℕ) (u v w : View) (calm : v.seen ≡ u.seen) (three : Told v (λ image. length image.areas ≡ 3)) (there : a < 3)
     (blank : w.seen ≡ option_map (with_area a (0 ∷ [])) v.seen) where
-  blank_image : (after : Image) → w.seen ≡ Some after → (before : Image) × (u.seen ≡ Some before) × (after ≡ with_area a (0 ∷ []) before)
+  pub blank_image : (after : Image) → w.seen ≡ Some after → (before : Image) × (u.seen ≡ Some before) × (after ≡ with_area a (0 ∷ []) before)
   blank_image after told = go v.seen refl
     where
       go : (o : Option Image) → v.seen ≡ o → (before : Image) × (u.seen ≡ Some before) × (after ≡ with_area a (0 ∷ []) before)
@@ -144,7 +144,7 @@ module _ (a : ℕ) (u v w : View) (calm : v.seen ≡ u.seen) (three : Told v (λ
           let is : w.seen ≡ Some (with_area a (0 ∷ []) before) = blank ∙ ap (option_map (with_area a (0 ∷ []))) e in
           (before, sym calm ∙ e, some_one after (with_area a (0 ∷ []) before) (sym told ∙ is))
 
-  area_blank : (before : Image) → v.seen ≡ Some before → area_of (with_area a (0 ∷ []) before) a ≡ 0 ∷ []
+  pub area_blank : (before : Image) → v.seen ≡ Some before → area_of (with_area a (0 ∷ []) before) a ≡ 0 ∷ []
   area_blank before told = let few = three before told in get_or-set_same before.areas a (0 ∷ []) [] (omega arith)
 
   pub blanked_synced : EachImage w (λ left. area_of left a ≡ 0 ∷ []) → IsSynced a w
@@ -163,6 +163,70 @@ module _ (a : ℕ) (u v w : View) (calm : v.seen ≡ u.seen) (three : Told v (λ
       go x false e = inl (get_or-set_other before.areas a x (0 ∷ []) [] (eqb-false x a e))
       go x true e = subst (λ y. (area_of (with_area a (0 ∷ []) before) y ≡ area_of before y) ⊎ ((area_of before y ≡ []) × (area_of (with_area a (0 ∷ []) before) y ≡ 0 ∷ []))) (sym (eqb-true x a e))
           (inr (no_byte (area_of before a) (sym none ∙ size before told), area_blank before (calm ∙ told)))
+
+-- ---- files
+
+pub files_still : (u v : View) → v.seen ≡ u.seen → Told u (λ before. Told v (SameFiles before))
+files_still u v same before told after told' = ap (λ (i : Image). i.files) (some_one after before (sym told' ∙ same ∙ told))
+
+pub files_elsewhere : (a : ℕ) (u v : View) → ReadsElsewhere a u v → Told u (λ before. Told v (SameFiles before))
+files_elsewhere a u v elsewhere before told after told' = (elsewhere before told after told').files
+
+pub files_then : (u v w : View) → is_some w.seen ≡ is_some v.seen → Told u (λ before. Told v (SameFiles before)) → Told v (λ before. Told w (SameFiles before)) → Told u (λ before. Told w (SameFiles before))
+files_then u v w tells first second before told after told' =
+    let mid = told_before v w after tells told' in
+    second mid.0 mid.1 after told' ∙ first before told mid.0 mid.1
+
+-- ---- in an honest store
+
+-- an honest store whose empty area was blanked, or not
+pub blanked_still : (a n : ℕ) (u v w : View) → Calm u v → Told u (λ image. n ≡ length (area_of image a)) → n ≡ 0
+    → Told v (λ image. (b : ℕ) → area_of image b ≡ [] → EachImage v (λ left. (area_of left b ≡ []) ⊎ (area_of left b ≡ 0 ∷ [])))
+    → (image : Image) × (w.seen ≡ Some image) × w.may_leave image → Leaves (Blanked a) v w → ReadsElsewhere a v w → Told u (λ before. Told w (BlanksEmpty before))
+blanked_still a n u v w calm size none empty reads call elsewhere before told after told' =
+    let other = elsewhere before (calm.seen ∙ told) after told' in
+    record { files = other.files; areas = λ b. go b (b == a) refl other }
+  where
+    was : area_of before a ≡ []
+    was = no_byte (area_of before a) (sym none ∙ size before told)
+
+    may : w.may_leave after
+    may = subst w.may_leave (some_one reads.0 after (sym reads.1 ∙ told')) reads.2
+
+    back : (i : Image) → v.may_leave i → Blanked a i after → (area_of after a ≡ []) ⊎ (area_of after a ≡ 0 ∷ [])
+    back i from is = elim is.blank [
+      | inl same ↦ elim (empty before (calm.seen ∙ told) a was i from) [
+        | inl e ↦ inl (same ∙ e)
+        | inr e ↦ inr (same ∙ e)
+      ]
+      | inr blank ↦ inr blank
+    ]
+
+    here : (area_of after a ≡ area_of before a) ⊎ ((area_of before a ≡ []) × (area_of after a ≡ 0 ∷ []))
+    here = let from = call.now after may in
+        elim (back from.0 from.1 from.2) [
+          | inl e ↦ inl (e ∙ sym was)
+          | inr e ↦ inr (was, e)
+        ]
+
+    go : (b : ℕ) (t : Bool) → (b == a) ≡ t → Elsewhere a before after → (area_of after b ≡ area_of before b) ⊎ ((area_of before b ≡ []) × (area_of after b ≡ 0 ∷ []))
+    go b false e other = inl (other.areas b (eqb-false b a e))
+    go b true e other = subst (λ n. (area_of after n ≡ area_of before n) ⊎ ((area_of before n ≡ []) × (area_of after n ≡ 0 ∷ []))) (sym (eqb-true b a e)) here
+
+-- an area that was blanked reads so
+pub blanked_reads : (a : ℕ) (v w : View) → Told v (λ image. length image.areas ≡ 3) → a < 3 → w.seen ≡ option_map (with_area a (0 ∷ [])) v.seen → Told w (λ after. area_of after a ≡ 0 ∷ [])
+blanked_reads a v w three there blank after told =
+    let b = blank_image a v v w refl three there blank after told in
+    ap (λ (i : Image). area_of i a) b.2 ∙ area_blank a v v w refl three there blank b.0 b.1
+
+-- an area that is empty
+pub empty_reads : (a n : ℕ) (u v : View) → Told u (λ image. n ≡ length (area_of image a)) → n ≡ 0 → v.seen ≡ u.seen → Told v (IsEmptyOrBlank a)
+empty_reads a n u v size none same image told = inl (no_byte (area_of image a) (sym none ∙ size image (sym same ∙ told)))
+
+pub each_empty : (a n : ℕ) (u v : View) → Told u (λ image. n ≡ length (area_of image a)) → n ≡ 0 → v.seen ≡ u.seen → (image : Image) × (v.seen ≡ Some image) × v.may_leave image
+    → Told v (λ image. (b : ℕ) → area_of image b ≡ [] → EachImage v (λ left. (area_of left b ≡ []) ⊎ (area_of left b ≡ 0 ∷ []))) → EachImage v (IsEmptyOrBlank a)
+each_empty a n u v size none same reads empty left may =
+    empty reads.0 reads.1 a (no_byte (area_of reads.0 a) (sym none ∙ size reads.0 (sym same ∙ reads.1))) left may
 
 -- an area that isn't empty stays as it is
 pub full_synced : (a n : ℕ) (u v : View) → Calm u v → Told u (λ image. n ≡ length (area_of image a)) → n ≢ 0 → IsSyncedOrEmpty a u → IsSynced a v

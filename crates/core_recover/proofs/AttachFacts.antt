@@ -30,7 +30,7 @@ some_one : {X : Type 0} (x y : X) → Some x ≡ Some y → x ≡ y
 some_one x y e = cc
 
 -- what holds of all holds of one
-all_one : {X : Type 0} (P : X → Type 0) (xs : List X) (i : ℕ) (x : X) → AllByRecursion P xs → slice_get xs i ≡ Some x → P x
+pub all_one : {X : Type 0} (P : X → Type 0) (xs : List X) (i : ℕ) (x : X) → AllByRecursion P xs → slice_get xs i ≡ Some x → P x
 all_one P [] i x h is = absurd (cc is)
 all_one P (y ∷ xs) zero x h is = subst P (some_one y x is) h.0
 all_one P (y ∷ xs) (suc i) x h is = all_one P xs i x h.1 is
@@ -39,7 +39,7 @@ all_to : {X : Type 0} (P Q : X → Type 0) (xs : List X) → ((x : X) → P x �
 all_to P Q [] f h = tt
 all_to P Q (x ∷ xs) f h = (f x h.0, all_to P Q xs f h.1)
 
-footer_found : (gs : List SegmentView) (n : ℕ) (g : SegmentView) → segment_of gs n ≡ Some g → footer_at (footers_of gs) n ≡ Some g.footer
+pub footer_found : (gs : List SegmentView) (n : ℕ) (g : SegmentView) → segment_of gs n ≡ Some g → footer_at (footers_of gs) n ≡ Some g.footer
 footer_found [] n g is = absurd (cc is)
 footer_found (h ∷ gs) n g is = go (h.number == n) is (footer_found gs n g)
   where
@@ -72,7 +72,7 @@ module _ {R : Type 0} (view : R → ReaderView) (s : Layout) (v : View) where
   numbers_are (x ∷ files) [] are = absurd are
   numbers_are (x ∷ files) (g ∷ segs) are = λ i. are.0.number i ∷ numbers_are files segs are.1 i
 
-  attached_one : (files : List NamedFile) (segs : List (Segment R)) (i : ℕ) (x : NamedFile) → AreAttached view s v files segs → slice_get files i ≡ Some x → (g : Segment R) × ((slice_get segs i ≡ Some g) × stored_files.IsAttached view s v x g)
+  pub attached_one : (files : List NamedFile) (segs : List (Segment R)) (i : ℕ) (x : NamedFile) → AreAttached view s v files segs → slice_get files i ≡ Some x → (g : Segment R) × ((slice_get segs i ≡ Some g) × stored_files.IsAttached view s v x g)
   attached_one [] [] i x are is = absurd (cc is)
   attached_one [] (g ∷ segs) i x are is = absurd are
   attached_one (y ∷ files) [] i x are is = absurd are

@@ -3,6 +3,9 @@ use Rattle.std.proofs.Common.{◌≡◌, refl, ap, sym, subst, ◌∙◌, ℕ, �
 use Rattle.dev_traits.specs.Causes.{Counts, HasCause, HasCauseOf, RoseBy}
 use Rattle.dev_traits.proofs.Counting.{counts_rose, rose_less, rose_none}
 use Rattle.dev_traits.specs.declared.faults.Damaged.{Damaged}
+use Rattle.dev_traits.specs.View.{View}
+use Rattle.tablet_state.specs.State.{Shown, reader_faults}
+use Rattle.core_recover.specs.Keeping.{CountsAs, CountsNone}
 use Rattle.core_recover.specs.Opening.{IsWant}
 use Rattle.core_recover.specs.declared.faults.OpenFault.{OpenFault}
 use Rattle.core_recover.specs.declared.faults.OpenFault.TheVariants as fault
@@ -32,3 +35,21 @@ rose_ok before now all x cause is =
   where
     no : {T E : Type 0} (y : T) (e : E) → Ok y ≡ Err e → ⊥
     no y e h = cc
+
+-- ---- exactly
+
+pub counted_so : {T : Type 0} (before now : ℕ) (e : OpenFault) → HasCauseOf {T = T} fault.StoreFault before now (Err e) → CountsAs e before now
+counted_so before now fault.StoreFault cause = cause.failed refl
+counted_so before now fault.Empty cause = cause.well (λ is. apart fault.Empty fault.StoreFault (λ h. cc) is)
+counted_so before now (fault.Damaged d) cause = cause.well (λ is. apart (fault.Damaged d) fault.StoreFault (λ h. cc) is)
+counted_so before now fault.Memory cause = cause.well (λ is. apart fault.Memory fault.StoreFault (λ h. cc) is)
+
+pub uncounted_so : {S T : Type 0} (view : S → View) (before : ℕ) (left : S) (st : Shown S) (x : T) → st.store ≡ left → HasCauseOf {E = OpenFault} fault.StoreFault before (view left).faults (Ok x)
+    → st.maker_faults ≡ 0 → reader_faults st.segments ≡ 0 → CountsNone view before st
+uncounted_so view before left st x is cause maker readers =
+    let same : (view left).faults ≡ before = cause.well (λ h. never x fault.StoreFault h) in
+    let here : (view st.store).faults ≡ before = ap (λ s. (view s).faults) is ∙ same in
+    record { store = here; maker = maker; readers = readers; all = omega arith }
+  where
+    never : {T E : Type 0} (y : T) (e : E) → Ok y ≡ Err e → ⊥
+    never y e h = cc

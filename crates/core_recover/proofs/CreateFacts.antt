@@ -15,7 +15,8 @@ use Rattle.version_journal.specs.Commits.{IsDue, Joins}
 use Rattle.version_journal.specs.Images.{HasNoRecord, IsSaid}
 use Rattle.version_journal.specs.Journals.{HasJournal, IsCounted, ReadsAs}
 use Rattle.version_journal.specs.declared.journals.Journal.{Journal}
-use Rattle.core_recover.specs.Creating.{Clears, HasBegun, IsBlank, IsClean, IsStart, first_standing}
+use Rattle.core_recover.specs.Areas.{IsEmptyOrBlank}
+use Rattle.core_recover.specs.Creating.{BlanksBoth, Clears, HasBegun, HasNoFile, IsBlank, IsClean, IsStart, KeepsRest, first_standing}
 use Rattle.core_recover.proofs.AreaFacts.{told_after, told_before}
 
 -- ---- clearing
@@ -44,35 +45,90 @@ forgets_clear u v call = leaves_by (Forgets []) Clears u v call (λ d i left is.
 pub then_clears : (a : ℕ) (u v w : View) → Leaves Clears u v → Leaves (Blanked a) v w → Leaves Clears u w
 then_clears a u v w first second = leaves_then Clears (Blanked a) Clears u v w first second (λ d i left is. is) (λ d e i left one from two. clears_then d e i one (blank_clears a e i two))
 
-clean_image : (image : Image) → length (with_files_of [] image).areas ≡ 3 → length (with_area 0 (0 ∷ []) (with_files_of [] image)).areas ≡ 3 → IsClean (with_area 1 (0 ∷ []) (with_area 0 (0 ∷ []) (with_files_of [] image)))
-clean_image image one two = record {
-  blank = (
-    get_or-set_other (with_area 0 (0 ∷ []) (with_files_of [] image)).areas 1 0 (0 ∷ []) [] (λ e. absurd (omega arith)) ∙ get_or-set_same image.areas 0 (0 ∷ []) [] (omega arith),
-    get_or-set_same (with_area 0 (0 ∷ []) (with_files_of [] image)).areas 1 (0 ∷ []) [] (omega arith),
-  );
-  none = λ number. get-retain_keys image.files (λ n. false) number (λ x e. refl);
-}
-
-pub clean_so : (u v w x : View) → v.seen ≡ option_map (with_files_of []) u.seen → w.seen ≡ option_map (with_area 0 (0 ∷ [])) v.seen → x.seen ≡ option_map (with_area 1 (0 ∷ [])) w.seen
-    → Told v (λ image. length image.areas ≡ 3) → Told w (λ image. length image.areas ≡ 3) → Told x IsClean
-clean_so u v w x first second third three more after told = go u.seen refl
+pub forgot_none : (u v : View) → v.seen ≡ option_map (with_files_of []) u.seen → Told v HasNoFile
+forgot_none u v forgot after told number = go u.seen refl
   where
-    apart : x.seen ≡ None → x.seen ≡ Some after → ⊥
+    apart : v.seen ≡ None → v.seen ≡ Some after → ⊥
     apart a b = cc
 
     some_one : (i j : Image) → Some i ≡ Some j → i ≡ j
     some_one i j e = cc
 
-    go : (o : Option Image) → u.seen ≡ o → IsClean after
-    go None e =
-        let v' : v.seen ≡ None = first ∙ ap (option_map (with_files_of [])) e in
-        let w' : w.seen ≡ None = second ∙ ap (option_map (with_area 0 (0 ∷ []))) v' in
-        absurd (apart (third ∙ ap (option_map (with_area 1 (0 ∷ []))) w') told)
+    go : (o : Option Image) → u.seen ≡ o → file after number ≡ None
+    go None e = absurd (apart (forgot ∙ ap (option_map (with_files_of [])) e) told)
     go (Some image) e =
-        let v' : v.seen ≡ Some (with_files_of [] image) = first ∙ ap (option_map (with_files_of [])) e in
-        let w' : w.seen ≡ Some (with_area 0 (0 ∷ []) (with_files_of [] image)) = second ∙ ap (option_map (with_area 0 (0 ∷ []))) v' in
-        let x' : x.seen ≡ Some (with_area 1 (0 ∷ []) (with_area 0 (0 ∷ []) (with_files_of [] image))) = third ∙ ap (option_map (with_area 1 (0 ∷ []))) w' in
-        subst IsClean (some_one _ after (sym x' ∙ told)) (clean_image image (three _ v') (more _ w'))
+        let is : v.seen ≡ Some (with_files_of [] image) = forgot ∙ ap (option_map (with_files_of [])) e in
+        ap (λ (i : Image). file i number) (some_one after (with_files_of [] image) (sym told ∙ is)) ∙ get-retain_keys image.files (λ n. false) number (λ x e. refl)
+
+pub none_elsewhere : (v w : View) (a : ℕ) → is_some w.seen ≡ is_some v.seen → Told v HasNoFile → ReadsElsewhere a v w → Told w HasNoFile
+none_elsewhere v w a tells none elsewhere after told number =
+    let before = told_before v w after tells told in
+    ap (λ fs. get fs number) (elsewhere before.0 before.1 after told).files ∙ none before.0 before.1 number
+
+-- ---- areas 0 and 1
+
+blank_rest : (a : ℕ) (d i : Image) → a < 2 → Blanked a d i → BlanksBoth d i
+blank_rest a d i lt is = record { rest = record { files = is.elsewhere.files; index = is.elsewhere.areas 2 (λ e. absurd (omega arith)) }; areas = (blank_clears a d i is).areas }
+
+rest_then : (d e i : Image) → BlanksBoth d e → BlanksBoth e i → BlanksBoth d i
+rest_then d e i first second = record {
+  rest = record { files = second.rest.files ∙ first.rest.files; index = second.rest.index ∙ first.rest.index };
+  areas = (clears_then d e i (record { areas = first.areas }) (record { areas = second.areas })).areas;
+}
+
+pub one_blanked : (a : ℕ) (u v : View) → a < 2 → Leaves (Blanked a) u v → Leaves BlanksBoth u v
+one_blanked a u v lt call = leaves_by (Blanked a) BlanksBoth u v call (λ d i left is. blank_rest a d i lt is)
+
+pub two_blanked : (u v w : View) → Leaves (Blanked 0) u v → Leaves (Blanked 1) v w → Leaves BlanksBoth u w
+two_blanked u v w first second =
+    leaves_then BlanksBoth BlanksBoth BlanksBoth u v w (one_blanked 0 u v (omega arith) first) (one_blanked 1 v w (omega arith) second) (λ d i left is. is) (λ d e i left one from two. rest_then d e i one two)
+
+pub one_rest : (a : ℕ) (u v : View) → a < 2 → ReadsElsewhere a u v → Told u (λ before. Told v (KeepsRest before))
+one_rest a u v lt elsewhere before told after told' =
+    let is = elsewhere before told after told' in
+    record { files = is.files; index = is.areas 2 (λ e. absurd (omega arith)) }
+
+pub two_rest : (u v w : View) → is_some w.seen ≡ is_some v.seen → ReadsElsewhere 0 u v → ReadsElsewhere 1 v w → Told u (λ before. Told w (KeepsRest before))
+two_rest u v w tells first second before told after told' =
+    let mid = told_before v w after tells told' in
+    let one = one_rest 0 u v (omega arith) first before told mid.0 mid.1 in
+    let two = one_rest 1 v w (omega arith) second mid.0 mid.1 after told' in
+    record { files = two.files ∙ one.files; index = two.index ∙ one.index }
+
+pub blank_reads : (v w : View) → is_some w.seen ≡ is_some v.seen → Told v (λ image. area_of image 0 ≡ 0 ∷ []) → ReadsElsewhere 1 v w → Told w (λ image. area_of image 1 ≡ 0 ∷ []) → Told w IsBlank
+blank_reads v w tells first elsewhere second after told =
+    let mid = told_before v w after tells told in
+    ((elsewhere mid.0 mid.1 after told).areas 0 (λ e. absurd (omega arith)) ∙ first mid.0 mid.1, second after told)
+
+-- ---- all of it
+
+pub both_clear : (u v w : View) → Leaves Clears u v → Leaves BlanksBoth v w → Leaves Clears u w
+both_clear u v w first second = leaves_then Clears BlanksBoth Clears u v w first second (λ d i left is. is) (λ d e i left one from two. clears_then d e i one (record { areas = two.areas }))
+
+pub clean_so : (v w : View) → is_some w.seen ≡ is_some v.seen → Told v HasNoFile → Told v (λ before. Told w (KeepsRest before)) → Told w IsBlank → Told w IsClean
+clean_so v w tells none rest blank after told =
+    let before = told_before v w after tells told in
+    record { blank = blank after told; none = λ number. ap (λ fs. get fs number) (rest before.0 before.1 after told).files ∙ none before.0 before.1 number }
+
+index_same : (before after : Image) → area_of after 2 ≡ area_of before 2 → IsEmptyOrBlank 2 before → IsEmptyOrBlank 2 after
+index_same before after same (inl e) = inl (same ∙ e)
+index_same before after same (inr e) = inr (same ∙ e)
+
+pub index_rest : (v w : View) → is_some w.seen ≡ is_some v.seen → Told v (IsEmptyOrBlank 2) → Told v (λ before. Told w (KeepsRest before)) → Told w (IsEmptyOrBlank 2)
+index_rest v w tells was rest after told =
+    let before = told_before v w after tells told in
+    index_same before.0 after (rest before.0 before.1 after told).index (was before.0 before.1)
+
+pub each_rest : (v w : View) → EachImage v (IsEmptyOrBlank 2) → Leaves BlanksBoth v w → EachImage w (IsEmptyOrBlank 2)
+each_rest v w was call left may = let from = call.now left may in index_same from.0 left from.2.rest.index (was from.0 from.1)
+
+pub index_elsewhere : (v w : View) (a : ℕ) → a ≡ 0 → is_some w.seen ≡ is_some v.seen → Told v (IsEmptyOrBlank 2) → ReadsElsewhere a v w → Told w (IsEmptyOrBlank 2)
+index_elsewhere v w a is tells was elsewhere after told =
+    let before = told_before v w after tells told in
+    index_same before.0 after ((elsewhere before.0 before.1 after told).areas 2 (λ e. absurd (omega arith))) (was before.0 before.1)
+
+pub each_joined : (v w : View) (a : ℕ) (t : Standing) → a ≡ 0 → EachImage v (IsEmptyOrBlank 2) → Leaves (Joins a None t) v w → EachImage w (IsEmptyOrBlank 2)
+each_joined v w a t is was call left may = let from = call.now left may in index_same from.0 left (from.2.elsewhere.areas 2 (λ e. absurd (omega arith))) (was from.0 from.1)
 
 pub blank_so : (v w : View) → EachImage v (λ left. area_of left 0 ≡ 0 ∷ []) → Leaves (Blanked 1) v w → EachImage w (λ left. area_of left 1 ≡ 0 ∷ []) → EachImage w IsBlank
 blank_so v w first call second left may = let from = call.now left may in (from.2.elsewhere.areas 0 (λ e. absurd (omega arith)) ∙ first from.0 from.1, second left may)

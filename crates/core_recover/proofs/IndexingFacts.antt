@@ -86,7 +86,7 @@ attached_same s (x ∷ xs) (y ∷ ys) same h = (
   attached_same s xs ys same.1 h.1,
 )
 
-found_same : (old new : List SegmentView) (n : ℕ) (g : SegmentView) → OneByOne old new → segment_of old n ≡ Some g → (h : SegmentView) × ((segment_of new n ≡ Some h) × OneFile g h)
+pub found_same : (old new : List SegmentView) (n : ℕ) (g : SegmentView) → OneByOne old new → segment_of old n ≡ Some g → (h : SegmentView) × ((segment_of new n ≡ Some h) × OneFile g h)
 found_same [] [] n g same is = absurd (cc is)
 found_same [] (y ∷ ys) n g same is = absurd same
 found_same (x ∷ xs) [] n g same is = absurd same

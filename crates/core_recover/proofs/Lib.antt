@@ -11,4 +11,8 @@ pub mod OpenFacts
 pub mod OpenedFacts
 pub mod TabletFacts
 pub mod CountFacts
+pub mod DamageFacts
+pub mod ToldFacts
+pub mod ClashFacts
+pub mod KeepFacts
 pub mod NewFacts

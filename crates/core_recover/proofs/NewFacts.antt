@@ -23,10 +23,7 @@ use Rattle.tablet_state.specs.Contents.{Contents, contents_of}
 use Rattle.tablet_state.specs.Opening.{IsRead}
 use Rattle.tablet_state.specs.Stands.{Stands}
 use Rattle.tablet_state.specs.State.{HasOwn, IsOpen, SegmentView}
-use Rattle.core_recover.specs.Creating.{HasBegun, first_standing}
-
-abbrev pub new_contents : Layout → Contents
-new_contents schema = contents_of schema 1 0 0 1 0 [] [] empty
+use Rattle.core_recover.specs.Creating.{HasBegun, first_standing, new_contents}
 
 pub new_own : (schema : Layout) → schema_fault schema.columns schema.keys ≡ None → HasOwn (new_contents schema) []
 new_own schema good = record {

@@ -31,20 +31,20 @@ use Rattle.core_recover.proofs.NamingFacts.{eq_is}
 
 -- ---- areas
 
-no_log : (bodies : List (List ℕ)) → IsLog bodies [] → bodies ≡ []
+pub no_log : (bodies : List (List ℕ)) → IsLog bodies [] → bodies ≡ []
 no_log [] h = refl
 no_log (body ∷ bodies) h = let e = h.1 in absurd (cc e)
 
 closed : ◌≡◌ {A = ℕ} 0 165 → ⊥
 closed e = absurd (omega arith)
 
-log_like : (log : List (List ℕ)) (was now : List ℕ) → (now ≡ was) ⊎ ((was ≡ []) × (now ≡ 0 ∷ [])) → IsLog log was → IsLog log now
+pub log_like : (log : List (List ℕ)) (was now : List ℕ) → (now ≡ was) ⊎ ((was ≡ []) × (now ≡ 0 ∷ [])) → IsLog log was → IsLog log now
 log_like log was now (inl same) is = subst (IsLog log) (sym same) is
 log_like log was now (inr (none, blank)) is =
     let empty : log ≡ [] = no_log log (subst (IsLog log) none is) in
     subst (λ (l : List (List ℕ)). IsLog l now) (sym empty) (subst HasNone (sym blank) closed)
 
-none_like : (was now : List ℕ) → (now ≡ was) ⊎ ((was ≡ []) × (now ≡ 0 ∷ [])) → HasNone was → HasNone now
+pub none_like : (was now : List ℕ) → (now ≡ was) ⊎ ((was ≡ []) × (now ≡ 0 ∷ [])) → HasNone was → HasNone now
 none_like was now (inl same) is = subst HasNone (sym same) is
 none_like was now (inr (none, blank)) is = subst HasNone (sym blank) closed
 
@@ -58,10 +58,10 @@ like_none image left like none = (none_like (area_of image 0) (area_of left 0) (
 pub like_back : (image left : Image) → IsLike image left → HasNoRecord left → HasNoRecord image
 like_back image left like none = (none_back (area_of image 0) (area_of left 0) (like.areas 0 (omega arith)) none.0, none_back (area_of image 1) (area_of left 1) (like.areas 1 (omega arith)) none.1)
 
-epoch_area : (e : ℕ) → area_of_epoch e < 3
+pub epoch_area : (e : ℕ) → area_of_epoch e < 3
 epoch_area e = omega arith
 
-other_small : (e : ℕ) → other_area e < 3
+pub other_small : (e : ℕ) → other_area e < 3
 other_small e = omega arith
 
 pub said_like : (image left : Image) (m : Standing) → ((a : ℕ) → a < 3 → (area_of left a ≡ area_of image a) ⊎ ((area_of image a ≡ []) × (area_of left a ≡ 0 ∷ []))) → IsSaid image m → IsSaid left m
@@ -114,7 +114,7 @@ like_stands s b image left stands like =
 
 -- ---- files that are kept
 
-among_numbers : (gs : List SegmentView) (n : ℕ) (f : Footer) → footer_at (footers_of gs) n ≡ Some f → (i : ℕ) × (slice_get (numbers_in gs) i ≡ Some n)
+pub among_numbers : (gs : List SegmentView) (n : ℕ) (f : Footer) → footer_at (footers_of gs) n ≡ Some f → (i : ℕ) × (slice_get (numbers_in gs) i ≡ Some n)
 among_numbers [] n f is = absurd (cc is)
 among_numbers (g ∷ gs) n f is = go (g.number == n) refl is (among_numbers gs n f)
   where
@@ -122,10 +122,10 @@ among_numbers (g ∷ gs) n f is = go (g.number == n) refl is (among_numbers gs n
     go true e k more = (0, ap Some (eqb-true g.number n e))
     go false e k more = let w = more k in (suc w.0, w.1)
 
-contained : (ns : List ℕ) (i n : ℕ) → slice_get ns i ≡ Some n → Contains ns n
+pub contained : (ns : List ℕ) (i n : ℕ) → slice_get ns i ≡ Some n → Contains ns n
 contained ns i n is = (i, slice_get_within ns i n is, sym (unwrap_or-slice_get ns i n) ∙ ap (λ (o : Option ℕ). unwrap_or o n) is)
 
-listed_any : (ns : List ℕ) (i n : ℕ) → slice_get ns i ≡ Some n → list_any (eq_by_cmp nat_cmp n) ns ≡ true
+pub listed_any : (ns : List ℕ) (i n : ℕ) → slice_get ns i ≡ Some n → list_any (eq_by_cmp nat_cmp n) ns ≡ true
 listed_any [] i n is = absurd (cc is)
 listed_any (m ∷ ns) zero n is =
     let same : m ≡ n = cc in
@@ -142,17 +142,17 @@ none_any (m ∷ ns) next n below le =
     let lt = below.0 in
     ap (λ (b : Bool). b || list_any (eq_by_cmp nat_cmp n) ns) (eq_is n m ∙ ne_eqb n m (λ e. absurd (omega arith))) ∙ none_any ns next n below.1 le
 
-file_of : (ns : List ℕ) (image : Image) (n : ℕ) → file (with_files_of ns image) n ≡ cond (list_any (eq_by_cmp nat_cmp n) ns) (file image n) None
+pub file_of : (ns : List ℕ) (image : Image) (n : ℕ) → file (with_files_of ns image) n ≡ cond (list_any (eq_by_cmp nat_cmp n) ns) (file image n) None
 file_of ns image n = get-retain_keys image.files (λ m. list_any (eq_by_cmp nat_cmp m) ns) n (λ x same. ap (λ (m : ℕ). list_any (eq_by_cmp nat_cmp m) ns) (sym (nat_cmp-IsAntisymmetric n x same)))
 
-kept_file : (ns : List ℕ) (image : Image) (i n : ℕ) → slice_get ns i ≡ Some n → file (with_files_of ns image) n ≡ file image n
+pub kept_file : (ns : List ℕ) (image : Image) (i n : ℕ) → slice_get ns i ≡ Some n → file (with_files_of ns image) n ≡ file image n
 kept_file ns image i n is = file_of ns image n ∙ ap (λ (b : Bool). cond b (file image n) None) (listed_any ns i n is)
 
 pub free_file : (ns : List ℕ) (image : Image) (next n : ℕ) → AllByRecursion (λ m. m < next) ns → next ≤ n → file (with_files_of ns image) n ≡ None
 free_file ns image next n below le = file_of ns image n ∙ ap (λ (b : Bool). cond b (file image n) None) (none_any ns next n below le)
 
 module _ (segs : List SegmentView) (ns : List ℕ) (numbers : ns ≡ numbers_in segs) where
-  at_number : (f : NewFile) → IsInHand (footers_of segs) f → (i : ℕ) × (slice_get ns i ≡ Some f.file)
+  pub at_number : (f : NewFile) → IsInHand (footers_of segs) f → (i : ℕ) × (slice_get ns i ≡ Some f.file)
   at_number f hand = let w = among_numbers segs f.file hand.footer hand.there in (w.0, ap (λ (xs : List ℕ). slice_get xs w.0) numbers ∙ w.1)
 
   pub forget_kept : (fs : List NewFile) (image d i : Image) → AllByRecursion (IsInHand (footers_of segs)) fs → IsLike image d → Forgets ns d i

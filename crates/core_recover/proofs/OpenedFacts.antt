@@ -173,6 +173,9 @@ module _ (u v w : View) (p : IsSettledFrom u v w) (image : Image) (told : u.seen
   abbrev pub mid : (image : Image) × (w.seen ≡ Some image)
   mid = told_after v w image p.tells told_one
 
+  pub settled_blanks : BlanksEmpty image mid.0
+  settled_blanks = p.seen image told_one mid.0 mid.1
+
   pub mid_like : IsLike image mid.0
   mid_like = blanks_like image mid.0 (p.seen image told_one mid.0 mid.1)
 

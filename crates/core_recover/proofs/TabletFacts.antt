@@ -4,7 +4,7 @@ use Rattle.std.specs.FinMap.{empty}
 use Rattle.std.specs.List.{AllByRecursion}
 use Rattle.pk_values.specs.Schemas.{Layout}
 use Rattle.dev_traits.specs.Causes.{Counts, HasCauseOf, HasReadCause}
-use Rattle.dev_traits.specs.Image.{Image}
+use Rattle.dev_traits.specs.Image.{Image, file}
 use Rattle.dev_traits.specs.View.{View, Calm, Told}
 use Rattle.dev_traits.specs.declared.faults.Damaged.{Damaged}
 use Rattle.dev_traits.specs.declared.faults.ReadFault.{ReadFault}
@@ -33,12 +33,12 @@ use Rattle.core_recover.specs.Faults.{of_journal, of_read}
 use Rattle.core_recover.specs.Indexing.{HasNoIndex, HasReaderCause, Indexes, ReadsRows, numbers_in}
 use Rattle.core_recover.specs.Naming.{IsAmong}
 use Rattle.core_recover.specs.Opening.{IsWant}
-use Rattle.core_recover.specs.Reading.{AreFiles, HasFiles, IsIndexed, IsReadOf, ReadsFiles, named}
+use Rattle.core_recover.specs.Reading.{AreFiles, HasFiles, IsIndexed, IsReadOf, IsReading, ReadsFiles, named}
 use Rattle.core_recover.specs.Replaying.{IsReplayed}
 use Rattle.core_recover.specs.declared.faults.OpenFault.{OpenFault}
 use Rattle.core_recover.specs.declared.faults.OpenFault.TheVariants as fault
 use Rattle.core_recover.specs.declared.replaying.Replayed.{Replayed}
-use Rattle.core_recover.proofs.IndexingFacts.{all_read_same, attached_same, numbers_same, one_by_one, read_as_same}
+use Rattle.core_recover.proofs.IndexingFacts.{OneByOne, all_read_same, attached_same, numbers_same, one_by_one, read_as_same}
 use Rattle.core_recover.proofs.ReadingFacts.{current_files}
 
 -- ---- faults
@@ -137,6 +137,20 @@ index_read r stored image segs codes are reads indexes = indexes stored (rows_re
 
 pub index_whole : (r : Replayed) (stored : Files) (image : Image) (segs : List SegmentView) → AreFiles r stored image → ReadsFiles r stored segs → HasNoIndex r.schema (files_of r.current) segs → ⊥
 index_whole r stored image segs are reads against = against stored (rows_read r stored image segs are reads) are.short
+
+pub index_named : (r : Replayed) (stored : Files) (image : Image) (segs : List SegmentView) (codes : CodeMap) → AreSegments r.schema stored (named r) image → ReadsFiles r stored segs → Indexes r.schema (files_of r.current) segs empty codes
+    → IsIndexed r stored codes
+index_named r stored image segs codes are reads indexes =
+    indexes stored (both_rows r.schema stored image segs (files_of r.current) (current_files (λ (f : NewFile). IsSegment r.schema (stored f.file) f image) r are) (current_files (λ (f : NewFile). IsReadAs r.schema stored segs f) r reads))
+
+reading_each : (image : Image) (old new : List SegmentView) → OneByOne old new → AllByRecursion (IsReading image) old → AllByRecursion (IsReading image) new
+reading_each image [] [] same h = tt
+reading_each image [] (y ∷ ys) same h = absurd same
+reading_each image (x ∷ xs) [] same h = absurd same
+reading_each image (x ∷ xs) (y ∷ ys) same h = (record { bytes = same.0.bytes ∙ h.0.bytes ∙ ap (file image) (sym same.0.number) }, reading_each image xs ys same.1 h.1)
+
+pub reading_same : (image : Image) (old new : List SegmentView) → SameSegments old new → AllByRecursion (IsReading image) old → AllByRecursion (IsReading image) new
+reading_same image old new same h = reading_each image old new (one_by_one old new same) h
 
 reads_same : (s : Layout) (stored : Files) (old new : List SegmentView) (fs : List NewFile) → SameSegments old new → AreReadAs s stored old fs → AreReadAs s stored new fs
 reads_same s stored old new [] same h = tt

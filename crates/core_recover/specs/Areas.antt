@@ -25,5 +25,13 @@ pub record BlanksEmpty (old new : Image) : Type 0 where
   pub files : new.files ≡ old.files
   pub areas : (a : ℕ) → (area_of new a ≡ area_of old a) ⊎ ((area_of old a ≡ []) × (area_of new a ≡ 0 ∷ []))
 
+-- the files are as they were
+abbrev pub SameFiles : Image → Image → Type 0
+SameFiles before after = after.files ≡ before.files
+
+-- the area has no byte, or the one byte 0
+abbrev pub IsEmptyOrBlank : ℕ → Image → Type 0
+IsEmptyOrBlank a image = (area_of image a ≡ []) ⊎ (area_of image a ≡ 0 ∷ [])
+
 abbrev pub HasOpenCause : {T : Type 0} → ℕ → ℕ → Result T OpenFault → Type 0
 HasOpenCause before now result = HasCauseOf fault.StoreFault before now result

@@ -4,5 +4,7 @@ pub mod Replaying
 pub mod Naming
 pub mod Indexing
 pub mod Reading
+pub mod Damages
 pub mod Opening
 pub mod Creating
+pub mod Keeping

@@ -2,7 +2,7 @@
 use Rattle.std.specs.Prelude.{◌≡◌, ℕ, List, [], ◌∷◌, ◌++◌, map, None}
 use Rattle.std.specs.List.{AllByRecursion}
 use Rattle.pk_values.specs.Schemas.{Layout, schema_fault}
-use Rattle.dev_traits.specs.Image.{Image}
+use Rattle.dev_traits.specs.Image.{Image, file}
 use Rattle.dev_traits.specs.View.{View}
 use Rattle.pk_model.specs.declared.books.Book.{Book}
 use Rattle.rowsets.specs.Live.{Files}
@@ -44,6 +44,10 @@ pub record HasFiles (r : Replayed) (segments : List SegmentView) : Type 0 where
   pub attached : AllByRecursion (IsAttached r.schema) segments
   pub only : AllByRecursion (λ g. (rows : ℕ) × IsAmong (named r) g.number rows) segments
   pub unfailed : reader_faults segments ≡ 0
+
+-- the segment's reader reads the file of its number
+pub record IsReading (image : Image) (g : SegmentView) : Type 0 where
+  pub bytes : g.reader.bytes ≡ file image g.number
 
 -- the files of lawful rows, and their live rows have keys with short codes
 pub record AreFiles (r : Replayed) (stored : Files) (image : Image) : Type 0 where

@@ -6,6 +6,7 @@ ghost use Rattle.segment_read.specs.Reads.{OnDamage};
 ghost use Rattle.journal_form.specs.Versions.{files_of};
 ghost use Rattle.tablet_state.specs.Seen.{segments_of};
 ghost use Rattle.tablet_state.specs.State.{IsAttached, SameSegments};
+ghost use Rattle.core_recover.specs.Damages.{IsLiveDamage};
 ghost use Rattle.core_recover.specs.Indexing.{HasNoIndex, HasReaderCause, Indexes, numbers_in};
 
 use dev_traits::{Damaged, Part, ReadFault, SealedReader, Shown};
@@ -52,6 +53,7 @@ fn index_file<R: SealedReader>(
     requires attached { AllByRecursion (IsAttached schema.now) (segments_of R.view segments.old.items) }
     ensures index { OnOk result (Indexes schema.now (file.now ∷ []) (segments_of R.view segments.old.items) index.old.map index.new.map) }
     ensures intact { IfErr result (λ e. OnDamage e (λ damaged. HasNoIndex schema.now (file.now ∷ []) (segments_of R.view segments.old.items))) }
+    ensures damaged { IfErr result (λ e. OnDamage e (IsLiveDamage schema.now (file.now ∷ []) (segments_of R.view segments.old.items))) }
     ensures same { SameSegments (segments_of R.view segments.old.items) (segments_of R.view segments.new.items) }
     ensures cause { HasReaderCause (segments_of R.view segments.old.items) (segments_of R.view segments.new.items) result }
 {
@@ -79,6 +81,7 @@ fn index_files<R: SealedReader>(
     requires attached { AllByRecursion (IsAttached schema.now) (segments_of R.view segments.old.items) }
     ensures index { OnOk result (Indexes schema.now files.now (segments_of R.view segments.old.items) index.old.map index.new.map) }
     ensures intact { IfErr result (λ e. OnDamage e (λ damaged. HasNoIndex schema.now files.now (segments_of R.view segments.old.items))) }
+    ensures damaged { IfErr result (λ e. OnDamage e (IsLiveDamage schema.now files.now (segments_of R.view segments.old.items))) }
     ensures same { SameSegments (segments_of R.view segments.old.items) (segments_of R.view segments.new.items) }
     ensures cause { HasReaderCause (segments_of R.view segments.old.items) (segments_of R.view segments.new.items) result }
 {
@@ -107,6 +110,9 @@ pub fn index_of_live<R: SealedReader>(
 
     // No damage is told where the files are those of lawful rows whose live ones have keys with short codes.
     ensures intact { IfErr result (λ e. OnDamage e (λ damaged. HasNoIndex schema.now (files_of current.now) (segments_of R.view segments.old.items))) }
+
+    // The damage is that of one of the files: it has no segment, or a block of its segment that has a live row is damaged.
+    ensures damaged { IfErr result (λ e. OnDamage e (IsLiveDamage schema.now (files_of current.now) (segments_of R.view segments.old.items))) }
     ensures same { SameSegments (segments_of R.view segments.old.items) (segments_of R.view segments.new.items) }
     ensures cause { HasReaderCause (segments_of R.view segments.old.items) (segments_of R.view segments.new.items) result }
 {

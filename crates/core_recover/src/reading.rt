@@ -2,6 +2,11 @@ ghost use Rattle.std.specs.Prelude.{◌≡◌, ◌⊎◌, ◌++◌, ◌∷◌, [
 ghost use Rattle.std.specs.List.{AllByRecursion};
 ghost use Rattle.dev_traits.specs.Causes.{HasCauseOf};
 ghost use Rattle.dev_traits.specs.View.{Calm, Told};
+ghost use Rattle.dev_traits.specs.declared.faults.Damaged.{Damaged};
+ghost use Rattle.journal_form.specs.Versions.{files_of};
+ghost use Rattle.version_journal.specs.Reading.{damage_of};
+ghost use Rattle.core_recover.specs.Damages.{IsDamageOf, IsFooterDamage, IsNamedDamage};
+ghost use Rattle.core_recover.specs.Keeping.{IsThere};
 ghost use Rattle.column_page.specs.Footers.{is_footer};
 ghost use Rattle.gated_log.specs.Log.{IsSettled, IsSynced};
 ghost use Rattle.pk_values.specs.Schemas.{Layout};
@@ -17,7 +22,7 @@ ghost use Rattle.tablet_state.specs.State.{HasFewFiles};
 ghost use Rattle.core_recover.specs.Indexing.{numbers_in};
 ghost use Rattle.core_recover.specs.Naming.{AreNamed, Clash};
 ghost use Rattle.core_recover.specs.Opening.{IsWant};
-ghost use Rattle.core_recover.specs.Reading.{AreFiles, HasFiles, IsIndexed, IsReadOf, ReadsFiles, named, versions_of};
+ghost use Rattle.core_recover.specs.Reading.{AreFiles, HasFiles, IsIndexed, IsReadOf, IsReading, ReadsFiles, named, versions_of};
 ghost use Rattle.core_recover.specs.Replaying.{IsReplayed};
 ghost use Rattle.core_recover.specs.declared.faults.OpenFault.TheVariants as fault;
 
@@ -69,6 +74,7 @@ fn files_named(alloc: Global, replayed: &Replayed) -> Result<Vec<NamedFile>, Ope
     ensures named { IfOk result (λ files. AreNamed (named replayed.now) files.items) }
     ensures few { OnOk result (AllByRecursion HasFewFiles (versions_of replayed.now)) }
     ensures clash { IfErr result (λ e. IsWant e ⊎ Clash (named replayed.now)) }
+    ensures damaged { IfErr result (λ e. (d : Damaged) → e ≡ fault.Damaged d → (d ≡ damage_of 0) × Clash (named replayed.now)) }
     ensures not_empty { IsErrOf result fault.Empty → ⊥ }
     ensures not_failed { IsErrOf result fault.StoreFault → ⊥ }
 {
@@ -97,6 +103,10 @@ fn attach_named<S: Store>(
         → IfOk result (λ found. ReadsFiles replayed.now stored (segments_of S.Reader.view found.segments.items))) }
     ensures intact { Told (S.view store.old) (λ image. (stored : Files) → AreSegments replayed.now.schema stored (named replayed.now) image
         → IfErr result IsWant) }
+    ensures there { IfOk result (λ found. Told (S.view store.old) (λ image. AllByRecursion (IsThere replayed.now.schema image) (named replayed.now))) }
+    ensures bytes { IfOk result (λ found. Told (S.view store.old) (λ image. AllByRecursion (IsReading image) (segments_of S.Reader.view found.segments.items))) }
+    ensures damaged { IfErr result (λ e. (d : Damaged) → e ≡ fault.Damaged d → Told (S.view store.old) (λ image.
+        IsFooterDamage replayed.now.schema (named replayed.now) image d ⊎ ((d ≡ damage_of 0) × Clash (named replayed.now)))) }
     ensures not_empty { IsErrOf result fault.Empty → ⊥ }
     ensures calm { Calm (S.view store.old) (S.view store.new) }
     ensures cause { HasCauseOf fault.StoreFault (S.view store.old).faults (S.view store.new).faults result }
@@ -134,6 +144,11 @@ fn read_files<S: Store>(
     ensures reads { Told (S.view store.old) (λ image. (stored : Files) → AreFiles replayed.now stored image
         → IfOk result (λ found. ReadsFiles replayed.now stored (segments_of S.Reader.view found.segments.items) × IsIndexed replayed.now stored found.index.map)) }
     ensures intact { Told (S.view store.old) (λ image. (stored : Files) → AreFiles replayed.now stored image → IfErr result IsWant) }
+    ensures there { IfOk result (λ found. Told (S.view store.old) (λ image. AllByRecursion (IsThere replayed.now.schema image) (named replayed.now))) }
+    ensures bytes { IfOk result (λ found. Told (S.view store.old) (λ image. AllByRecursion (IsReading image) (segments_of S.Reader.view found.segments.items))) }
+    ensures indexed { IfOk result (λ found. Told (S.view store.old) (λ image. (stored : Files) → AreSegments replayed.now.schema stored (named replayed.now) image → IsIndexed replayed.now stored found.index.map)) }
+    ensures damaged { IfErr result (λ e. (d : Damaged) → e ≡ fault.Damaged d → Told (S.view store.old) (λ image.
+        IsNamedDamage replayed.now.schema (named replayed.now) (files_of replayed.now.current) image d ⊎ Clash (named replayed.now))) }
     ensures not_empty { IsErrOf result fault.Empty → ⊥ }
     ensures calm { Calm (S.view store.old) (S.view store.new) }
     ensures cause { HasCauseOf fault.StoreFault (S.view store.old).faults (S.view store.new).faults result }
@@ -184,6 +199,14 @@ pub fn read_tablet<S: Store>(alloc: Global, store: &mut S) -> Result<Tablet<S>, 
     ensures reads { Told (S.view store.old) (λ image. (s : Layout) (b : Book) (stands : Stands s b image)
         → IfOk result (λ found. IsReadOf found.replayed (segments_of S.Reader.view found.files.segments.items) found.files.index.map s stands.standing stands.stored)) }
     ensures intact { Told (S.view store.old) (λ image. (s : Layout) (b : Book) → Stands s b image → IfErr result IsWant) }
+
+    // Of every image it tells damage only where an area of the journal says nothing, or what it says names what is
+    // damaged; and each file that is named is there with its footer where none is told.
+    ensures damaged { IfErr result (λ e. (d : Damaged) → e ≡ fault.Damaged d → Told (S.view store.old) (λ image. IsDamageOf image d)) }
+    ensures there { IfOk result (λ found. Told (S.view store.old) (λ image. AllByRecursion (IsThere found.replayed.schema image) (named found.replayed))) }
+    ensures bytes { IfOk result (λ found. Told (S.view store.old) (λ image. AllByRecursion (IsReading image) (segments_of S.Reader.view found.files.segments.items))) }
+    ensures indexed { IfOk result (λ found. Told (S.view store.old) (λ image. (stored : Files) → AreSegments found.replayed.schema stored (named found.replayed) image
+        → IsIndexed found.replayed stored found.files.index.map)) }
     ensures only_empty { Told (S.view store.old) (λ image. HasNoRecord image → IfErr result (λ e. (e ≡ fault.Empty) ⊎ IsWant e)) }
     ensures never { Told (S.view store.old) (λ image. HasNoRecord image → OnOk result ⊥) }
     ensures empty { IsErrOf result fault.Empty → Told (S.view store.old) HasNoRecord }

@@ -121,6 +121,7 @@ attached_still read s old new f segment same is = record {
   footer = is.footer;
   counted = is.counted;
   bytes = λ image told. is.bytes image (same ∙ told);
+  there = λ image told. is.there image (same ∙ told);
   stands = λ image told. is.stands image (same ∙ told);
   unfailed = is.unfailed;
   reads = is.reads;

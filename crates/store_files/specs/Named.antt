@@ -1,5 +1,5 @@
 -- What the files of a store are, by their numbers and numbers of rows.
-use Rattle.std.specs.Prelude.{◌≡◌, ◌≢◌, ◌⊎◌, ℕ, ◌+◌, List, [], ◌∷◌, length, slice_get, Option, Some, None, ⊤}
+use Rattle.std.specs.Prelude.{◌≡◌, ◌≢◌, ◌⊎◌, ℕ, ◌+◌, List, [], ◌∷◌, length, slice_get, Option, Some, None, IsSome, ⊤}
 use Rattle.std.specs.List.{AllByRecursion}
 use Rattle.pk_values.specs.Schemas.{Layout}
 use Rattle.pk_values.specs.declared.cells.Value.{Value}
@@ -45,12 +45,14 @@ IsFileDamage s view f damaged = IsDamage f.number part.Footer (λ shown. Told vi
 abbrev pub IsNotStored : Layout → View → NamedFile → Type 0
 IsNotStored s view f = Told view (λ image. (rows : List (List Value)) → IsStored s f rows image → ⊥)
 
--- The segment is attached to this file: its reader is new but for the reads of the footer, and where the store tells, it reads the file.
+-- The segment is attached to this file: its reader is new but for the reads of the footer, and where the store tells, the file is there and the reader
+-- reads it.
 pub record IsAttached {R : Type 0} (read : R → ReaderView) (s : Layout) (view : View) (f : NamedFile) (g : Segment R) : Type 0 where
   pub number : g.number ≡ f.number
   pub footer : KnowsFooter s (read g.reader) g.footer
   pub counted : g.footer.rows ≡ f.rows
   pub bytes : Told view (λ image. (read g.reader).bytes ≡ file image f.number)
+  pub there : Told view (λ image. IsSome (file image f.number))
   -- of the file of rows it is their segment
   pub stands : Told view (λ image. (rows : List (List Value)) → (stored : IsStored s f rows image) → IsSegmentOf s g.footer stored.bytes rows)
   pub unfailed : (read g.reader).faults ≡ 0

@@ -21,3 +21,9 @@ pub mod RowFacts
 pub mod Lending
 pub mod KeptFacts
 pub mod Living
+pub mod KeepFacts
+pub mod KeepLoops
+pub mod Flooring
+pub mod Raising
+pub mod FloorReplies
+pub mod FloorState

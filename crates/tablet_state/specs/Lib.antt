@@ -5,6 +5,7 @@ pub mod Contents
 pub mod State
 pub mod Snapshots
 pub mod Readies
+pub mod Floors
 pub mod Opening
 pub mod Adopting
 pub mod Seen

@@ -3,7 +3,9 @@
 
 mod adopting;
 mod changes;
+mod floor;
 mod hands;
+mod keeping;
 mod laws;
 mod making;
 mod parts;
@@ -13,6 +15,7 @@ mod state;
 mod turns;
 
 pub use changes::{Change, Ready};
+pub use floor::ReadyFloor;
 pub use laws::{holding, replying, standing};
 pub use parts::StateParts;
 pub use ready::ReadyFault;

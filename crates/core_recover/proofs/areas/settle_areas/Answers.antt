@@ -1,5 +1,5 @@
 use Rattle.std.proofs.Common.{◌≡◌, ◌∙◌, sym, subst, IsTrue, Bool, arith}
-use Rattle.core_recover.proofs.AreaFacts.{blanked_like, on_so, synced_like, while_blanked, while_synced}
+use Rattle.core_recover.proofs.AreaFacts.{blanked_like, files_still, none_blanked, on_so, synced_like, while_blanked, while_synced}
 use Rattle.core_recover.specs.Areas.{IsLike}
 use Rattle.core_recover.proofs.areas.settle_areas.Goals as goal
 
@@ -30,3 +30,18 @@ returns-clause-synced g c = on_so c.blank_journal.result _ _ (λ synced. synced 
 
 pub returns-clause-seen : goal.returns-clause-seen
 returns-clause-seen g c = on_so c.blank_journal.result _ _ (λ seen before told after told'. seen before (c.sync_areas.ensures.seen ∙ told) after told') c.blank_journal.ensures.seen
+
+pub returns-in_err-sync_areas-clause-still : goal.returns-in_err-sync_areas-clause-still
+returns-in_err-sync_areas-clause-still g c = λ honest. none_blanked (g.S.Store.view c.args.store.now) (g.S.Store.view c.sync_areas.new.store) c.sync_areas.ensures.seen
+
+pub returns-clause-still : goal.returns-clause-still
+returns-clause-still g c = λ honest before told after told'.
+    let mid = g.S.Store.view c.sync_areas.new.store in
+    let still : IsTrue mid.is_honest = subst (λ (b : Bool). IsTrue b) (sym c.sync_areas.ensures.spends.honest) honest in
+    c.blank_journal.ensures.still still before (c.sync_areas.ensures.seen ∙ told) after told'
+
+pub returns-in_err-sync_areas-clause-files : goal.returns-in_err-sync_areas-clause-files
+returns-in_err-sync_areas-clause-files g c = files_still (g.S.Store.view c.args.store.now) (g.S.Store.view c.sync_areas.new.store) c.sync_areas.ensures.seen
+
+pub returns-clause-files : goal.returns-clause-files
+returns-clause-files g c = λ before told after told'. c.blank_journal.ensures.files before (c.sync_areas.ensures.seen ∙ told) after told'

@@ -38,3 +38,8 @@ returns-clause-any_moment g c = λ honest none.
     (only_after (λ left. HasNoRecord left ⊎ IsSaid left (first_standing c.args.schema)) v0 v2 v3 calm
     (c.write_first.ensures.any_moment (first_standing c.args.schema) c.in_ok-journal.ensures.due
     (subst (λ (t : Bool). IsTrue t) (sym calm.honest) honest) (calm_each HasNoRecord v0 v2 calm none))) c.give_back.ensures.calm
+
+pub returns-in-Ok-clause-each_index : goal.returns-in-Ok-clause-each_index
+returns-in-Ok-clause-each_index g c = λ honest.
+    let calm = calm_then (g.S.Store.view c.args.store.now) (g.S.Store.view c.room-2.new.self) (g.S.Store.view c.maker.new.self) c.room-2.ensures.calm c.maker.ensures.calm in
+    c.in-Ok.ensures.each_index (first_standing c.args.schema) c.in_ok-journal.ensures.due (subst (λ (t : Bool). IsTrue t) (sym calm.honest) honest)

@@ -1,30 +1,19 @@
 use Rattle.core_recover.proofs.AreaFacts.{on_so}
-use Rattle.core_recover.proofs.CreateFacts.{blank_so, clean_so, forgets_clear, then_clears}
+use Rattle.core_recover.proofs.CreateFacts.{both_clear, clean_so, each_rest, index_rest}
 use Rattle.core_recover.proofs.creating.clear.Goals as goal
-
-pub returns-in_err-forget_others-clause-moments : goal.returns-in_err-forget_others-clause-moments
-returns-in_err-forget_others-clause-moments g c = forgets_clear (g.S.Store.view c.args.store.now) (g.S.Store.view c.forget_others.new.self) c.forget_others.ensures.crash
-
-pub returns-in_err-blank-clause-moments : goal.returns-in_err-blank-clause-moments
-returns-in_err-blank-clause-moments g c =
-    let old = g.S.Store.view c.args.store.now in
-    let one = g.S.Store.view c.forget_others.new.self in
-    let two = g.S.Store.view c.blank.new.self in
-    then_clears 0 old one two (forgets_clear old one c.forget_others.ensures.crash) c.blank.ensures.crash
 
 pub returns-clause-moments : goal.returns-clause-moments
 returns-clause-moments g c =
-    let old = g.S.Store.view c.args.store.now in
-    let one = g.S.Store.view c.forget_others.new.self in
-    let two = g.S.Store.view c.blank.new.self in
-    let three = g.S.Store.view c.blank-2.new.self in
-    then_clears 1 old two three (then_clears 0 old one two (forgets_clear old one c.forget_others.ensures.crash) c.blank.ensures.crash) c.blank-2.ensures.crash
+    both_clear (g.S.Store.view c.args.store.now) (g.S.Store.view c.drop_rest.new.store) (g.S.Store.view c.blank_both.new.store) c.drop_rest.ensures.moments c.blank_both.ensures.moments
 
 pub returns-clause-clean : goal.returns-clause-clean
-returns-clause-clean g c = on_so c.blank-2.result _ _ (λ blank.
-    clean_so (g.S.Store.view c.args.store.now) (g.S.Store.view c.forget_others.new.self) (g.S.Store.view c.blank.new.self) (g.S.Store.view c.blank-2.new.self) c.in_ok-forget_others.ensures.forgot c.in_ok-blank.ensures.blank blank
-    (g.met.S.Store.three_areas c.forget_others.new.self) (g.met.S.Store.three_areas c.blank.new.self)) c.blank-2.ensures.blank
+returns-clause-clean g c = on_so c.blank_both.result _ _ (λ read.
+    clean_so (g.S.Store.view c.drop_rest.new.store) (g.S.Store.view c.blank_both.new.store) c.blank_both.ensures.spends.tells c.in_ok-drop_rest.ensures.none c.blank_both.ensures.elsewhere read) c.blank_both.ensures.read
 
-pub returns-clause-blank : goal.returns-clause-blank
-returns-clause-blank g c = on_so c.blank-2.result _ _ (λ durable.
-    blank_so (g.S.Store.view c.blank.new.self) (g.S.Store.view c.blank-2.new.self) c.in_ok-blank.ensures.durable c.blank-2.ensures.crash durable) c.blank-2.ensures.durable
+pub returns-clause-index : goal.returns-clause-index
+returns-clause-index g c = on_so c.blank_both.result _ _ (λ read.
+    index_rest (g.S.Store.view c.drop_rest.new.store) (g.S.Store.view c.blank_both.new.store) c.blank_both.ensures.spends.tells c.in_ok-drop_rest.ensures.index c.blank_both.ensures.elsewhere) c.blank_both.ensures.read
+
+pub returns-clause-each_index : goal.returns-clause-each_index
+returns-clause-each_index g c = on_so c.blank_both.result _ _ (λ read honest.
+    each_rest (g.S.Store.view c.drop_rest.new.store) (g.S.Store.view c.blank_both.new.store) (c.in_ok-drop_rest.ensures.each_index honest) c.blank_both.ensures.moments) c.blank_both.ensures.read

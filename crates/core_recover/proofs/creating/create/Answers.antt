@@ -1,12 +1,14 @@
 use Rattle.std.proofs.Common.{◌≡◌, ◌⊎◌, ◌∙◌, ap, sym, subst, IsTrue, Bool, None, Some}
 use Rattle.pk_values.specs.Schemas.{schema_fault}
-use Rattle.dev_traits.specs.View.{LeavesOnly, Told}
+use Rattle.dev_traits.specs.View.{EachImage, LeavesOnly, Told}
 use Rattle.pk_model.specs.Books.{new_book}
 use Rattle.version_journal.specs.Images.{HasNoRecord}
 use Rattle.version_journal.specs.Journals.{ReadsAs}
 use Rattle.tablet_state.specs.Stands.{Stands}
-use Rattle.core_recover.specs.Creating.{HasBegun, first_standing}
-use Rattle.core_recover.proofs.CountFacts.{never_fell, rose_ok, rose_one}
+use Rattle.core_recover.specs.Creating.{HasBegun, first_standing, new_contents}
+use Rattle.core_recover.specs.Areas.{IsEmptyOrBlank}
+use Rattle.core_recover.proofs.CountFacts.{counted_so, never_fell, rose_ok, rose_one, uncounted_so}
+use Rattle.core_recover.proofs.KeepFacts.{read_each}
 use Rattle.core_recover.proofs.NewFacts.{stands_or_none}
 use Rattle.core_recover.proofs.creating.create.Goals as goal
 
@@ -34,3 +36,35 @@ returns-in-Err-clause-any_moment g c = λ honest.
 
 pub returns-in-Ok-clause-counts_ok : goal.returns-in-Ok-clause-counts_ok
 returns-in-Ok-clause-counts_ok g c = rose_ok _ _ _ _ c.in-Ok.ensures.cause (c.new_state.ensures.faults c.in-Ok.ensures.maker)
+
+pub returns-in-Ok-clause-made : goal.returns-in-Ok-clause-made
+returns-in-Ok-clause-made g c = λ image told.
+    let is = ap (λ st. (g.S.Store.view st).seen) (sym c.new_state.ensures.store) ∙ told in
+    record { said = (c.in-Ok.ensures.reads image is).says; none = c.in-Ok.ensures.none image is; index = c.in-Ok.ensures.index image is }
+
+pub returns-in-Ok-clause-index : goal.returns-in-Ok-clause-index
+returns-in-Ok-clause-index g c = λ honest. subst (λ st. EachImage (g.S.Store.view st) (IsEmptyOrBlank 2)) (sym c.new_state.ensures.store) (c.in-Ok.ensures.each_index honest)
+
+pub returns-in-Ok-clause-contents : goal.returns-in-Ok-clause-contents
+returns-in-Ok-clause-contents g c = c.new_state.ensures.contents ∙ ap new_contents c.in-Ok.ensures.schema
+
+pub returns-in-Ok-clause-still : goal.returns-in-Ok-clause-still
+returns-in-Ok-clause-still g c = λ honest.
+    let still = subst (λ (t : Bool). IsTrue t) (sym c.begin.ensures.honest) honest in
+    subst (λ st. Told (g.S.Store.view st) (λ image. HasNoRecord image ⊎ Stands c.args.schema new_book image)) (sym c.new_state.ensures.store)
+    (read_each (g.S.Store.view c.begin.new.store) (λ image. HasNoRecord image ⊎ Stands c.args.schema new_book image) (g.met.S.Store.honest_reads c.begin.new.store still)
+    (stands_or_none c.args.schema (g.S.Store.view c.args.store) (g.S.Store.view c.begin.new.store) (c.begin.ensures.any_moment honest (c.requires honest))).now)
+
+pub returns-in-Err-clause-still : goal.returns-in-Err-clause-still
+returns-in-Err-clause-still g c = λ honest.
+    let still = subst (λ (t : Bool). IsTrue t) (sym c.begin.ensures.honest) honest in
+    read_each (g.S.Store.view c.begin.new.store) (λ image. HasNoRecord image ⊎ Stands c.args.schema new_book image) (g.met.S.Store.honest_reads c.begin.new.store still)
+    (stands_or_none c.args.schema (g.S.Store.view c.args.store) (g.S.Store.view c.begin.new.store) (c.begin.ensures.any_moment honest (c.requires honest))).now
+
+pub returns-in-Err-clause-counted : goal.returns-in-Err-clause-counted
+returns-in-Err-clause-counted g c = counted_so _ _ c.in-Err.fault c.in-Err.ensures.cause
+
+pub returns-in-Ok-clause-uncounted : goal.returns-in-Ok-clause-uncounted
+returns-in-Ok-clause-uncounted g c =
+    let none = c.new_state.ensures.uncounted c.in-Ok.ensures.maker in
+    uncounted_so g.S.Store.view (g.S.Store.view c.args.store).faults c.begin.new.store _ _ c.new_state.ensures.store c.in-Ok.ensures.cause none.0 none.1

@@ -1,5 +1,5 @@
 use Rattle.std.proofs.Common.{◌≡◌, ◌∙◌, sym, subst, IsTrue, Bool, None, Some}
-use Rattle.core_recover.proofs.CreateFacts.{begun_so, files_none, start_has, start_log, start_reads, start_ready, while_begun, while_cleared}
+use Rattle.core_recover.proofs.CreateFacts.{begun_so, each_joined, files_none, index_elsewhere, start_has, start_log, start_reads, start_ready, while_begun, while_cleared}
 use Rattle.core_recover.proofs.AreaFacts.{told_before}
 use Rattle.core_recover.proofs.creating.write_first.Goals as goal
 
@@ -49,3 +49,14 @@ returns-in-Ok-clause-reads g c = λ t due after told.
 
 pub returns-in-Ok-clause-none : goal.returns-in-Ok-clause-none
 returns-in-Ok-clause-none g c = files_none (g.S.Store.view c.clear.new.store) (g.S.Store.view c.commit.new.store) _ c.commit.ensures.spends.tells c.in_ok-clear.ensures.clean c.commit.ensures.elsewhere
+
+pub returns-in-Ok-clause-index : goal.returns-in-Ok-clause-index
+returns-in-Ok-clause-index g c = index_elsewhere (g.S.Store.view c.clear.new.store) (g.S.Store.view c.commit.new.store) _ c.requires.start.area c.commit.ensures.spends.tells c.in_ok-clear.ensures.index c.commit.ensures.elsewhere
+
+pub returns-in-Ok-clause-each_index : goal.returns-in-Ok-clause-each_index
+returns-in-Ok-clause-each_index g c = λ t due honest.
+    let mid = g.S.Store.view c.clear.new.store in
+    let new = g.S.Store.view c.commit.new.store in
+    let still : IsTrue mid.is_honest = subst (λ (b : Bool). IsTrue b) (sym c.clear.ensures.spends.honest) honest in
+    let has = start_has c.args.journal.now mid c.requires.start c.in_ok-clear.ensures.blank still in
+    each_joined mid new _ t c.requires.start.area (c.in_ok-clear.ensures.each_index honest) (c.commit.ensures.any_moment None t has due)

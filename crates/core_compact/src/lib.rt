@@ -1,0 +1,6 @@
+//! Versions that expire.
+#![tactic(auto)]
+
+mod expiring;
+
+pub use expiring::expire;

@@ -1,0 +1,2 @@
+mod RiseFacts
+pub mod PartsFacts
