@@ -18,6 +18,7 @@ ghost use Rattle.tablet_run.specs.Doing.{Does, HasDone, faults_beside};
 ghost use Rattle.tablet_run.specs.Scanning.{IsIdle, RowsTold};
 
 use crate::scanning::text_of_rows;
+use core_compact::expire;
 use core_publish::{open_version, prepare, publish, stat};
 use dev_traits::{OutsideFault, Store};
 use load_csv::read_load;
@@ -153,6 +154,18 @@ fn scan_version<S: Store>(alloc: Global, state: &mut State<S>, want: Want, place
     }
 }
 
+// Drops the versions below one.
+fn expire_versions<S: Store>(alloc: Global, state: &mut State<S>, v: u64, place: u64) -> Done
+    ensures { (j : FiledJob) (n : ℕ) → j.job.act ≡ JobAct.Expire v
+        → Does S.view j place state.old state.new (faults_beside S.view state.old n)
+        (faults_beside S.view state.new n) result }
+{
+    Done {
+        turn: true,
+        outcome: Outcome::Turn(expire(alloc, state, v, place)),
+    }
+}
+
 // Counts the rows of the current version.
 fn count_rows<S: Store>(state: &State<S>) -> Done
     ensures { (j : FiledJob) (n place : ℕ) → j.job.act ≡ JobAct.Stat
@@ -182,8 +195,9 @@ fn do_job<S: Store>(
     match &job.job.act {
         JobAct::Load(_) => load_file(alloc, state, maker, job.file.as_slice(), place),
         JobAct::Scan(want) => scan_version(alloc, state, *want, place),
+        JobAct::Expire(v) => expire_versions(alloc, state, *v, place),
         JobAct::Stat => count_rows(state),
-        JobAct::Partial(_) | JobAct::Compact | JobAct::Expire(_) => unreachable!(),
+        JobAct::Partial(_) | JobAct::Compact => unreachable!(),
     }
 }
 

@@ -40,13 +40,16 @@ returns-in-Ok-apply_floor-clause-any_moment g c b h open_ =
     moments_then g.S.Store.view st mid (g.S.Store.view c.apply_floor.new.self.store) b c.args.seq (call.Expire c.args.v) (g.met.S.Store.only_now st.store) h open_ c.ready_floor.ensures.rests.calm c.ready_floor.ensures.rests.contents
     (subst (λ (n : ℕ). StandsThroughout mid.contents.schema b c.args.seq (call.Expire n) (g.S.Store.view mid.store) (g.S.Store.view c.apply_floor.new.self.store)) c.in-Ok.ensures.floor (c.in-Ok-apply_floor.ensures.any_moment b (c.ready_floor.ensures.has b h)))
 
-pub returns-in-Err-clause-turn : goal.returns-in-Err-clause-turn
-returns-in-Err-clause-turn g c b h =
-    subst (λ (n : ℕ). Steps g.S.Store.view c.apply_floor.new.self b c.args.seq (call.Expire n) c.in-Err.fault) c.in-Ok.ensures.floor (c.in-Err.ensures.turn b (c.ready_floor.ensures.has b h))
-
-pub returns-in-Err-clause-any_moment : goal.returns-in-Err-clause-any_moment
-returns-in-Err-clause-any_moment g c b h open_ =
+pub returns-in-Err-apply_floor-clause-any_moment : goal.returns-in-Err-apply_floor-clause-any_moment
+returns-in-Err-apply_floor-clause-any_moment g c b h open_ =
     let st = c.args.state.now in
     let mid = c.ready_floor.new.self in
     moments_then g.S.Store.view st mid (g.S.Store.view c.apply_floor.new.self.store) b c.args.seq (call.Expire c.args.v) (g.met.S.Store.only_now st.store) h open_ c.ready_floor.ensures.rests.calm c.ready_floor.ensures.rests.contents
-    (subst (λ (n : ℕ). StandsThroughout mid.contents.schema b c.args.seq (call.Expire n) (g.S.Store.view mid.store) (g.S.Store.view c.apply_floor.new.self.store)) c.in-Ok.ensures.floor (c.in-Err.ensures.any_moment b (c.ready_floor.ensures.has b h)))
+    (subst (λ (n : ℕ). StandsThroughout mid.contents.schema b c.args.seq (call.Expire n) (g.S.Store.view mid.store) (g.S.Store.view c.apply_floor.new.self.store)) c.in-Ok.ensures.floor (c.in-Err-apply_floor.ensures.any_moment b (c.ready_floor.ensures.has b h)))
+
+pub returns-in-Err-clause-turn : goal.returns-in-Err-clause-turn
+returns-in-Err-clause-turn g c b h = c.in-Err.ensures.memory b c.args.seq h
+
+pub returns-in-Err-clause-any_moment : goal.returns-in-Err-clause-any_moment
+returns-in-Err-clause-any_moment g c b h open_ =
+    moments_still g.S.Store.view c.args.state.now c.ready_floor.new.self b c.args.seq (call.Expire c.args.v) (g.met.S.Store.only_now c.args.state.now.store) h open_ c.ready_floor.ensures.rests.calm

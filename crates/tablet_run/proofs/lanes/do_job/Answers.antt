@@ -9,3 +9,6 @@ returns-in-Scan g c = c.scan_version.ensures c.args.job.now _ c.in-Scan.is
 
 pub returns-in-Stat : goal.returns-in-Stat
 returns-in-Stat g c = c.count_rows.ensures c.args.job.now _ c.args.place c.in-Stat.is
+
+pub returns-in-Expire : goal.returns-in-Expire
+returns-in-Expire g c = c.expire_versions.ensures c.args.job.now _ c.in-Expire.is
