@@ -65,7 +65,7 @@ fn remake_key<S: Store>(
     }
     let old = old_row(alloc, state, schema, key, &now)?;
     let row = key.change.apply(alloc, schema, given, None, &key.key, old)?;
-    remade.results.add(key.code, row)?;
+    remade.results.add(key.code.copy(), row)?;
     if let Some(place) = key.made {
         remade.stale.push(place)?;
     }

@@ -21,6 +21,3 @@ pub use prepared::PreparedPartial;
 pub use preparing::prepare_partial;
 pub use publishing::publish_partial;
 pub use settling::settle;
-
-#[test]
-fn compiles() {}

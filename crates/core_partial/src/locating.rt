@@ -63,7 +63,7 @@ fn located<S: Store>(
     let keys = keys_of(alloc, state.schema(), load)?;
     let mut located = Vec::with_capacity(alloc, keys.len())?;
     for key in &keys {
-        located.push((key.code, state.place_of(&key.code)))?;
+        located.push((key.code.copy(), state.place_of(&key.code)))?;
     }
     Ok(located)
 }

@@ -131,10 +131,10 @@ fn moves_of(
 {
     let mut index = Vec::with_capacity(alloc, keys.len())?;
     for key in keys {
-        index.push((key.code, placed_from(key.made, first)))?;
+        index.push((key.code.copy(), placed_from(key.made, first)))?;
     }
     for entry in moves {
-        index.push((entry.0, placed_from(entry.1, more)))?;
+        index.push((entry.0.copy(), placed_from(entry.1, more)))?;
     }
     Ok(index)
 }

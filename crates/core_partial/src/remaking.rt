@@ -10,6 +10,7 @@ ghost use Rattle.tablet_state.specs.Moving.{HasRowOf, stays_live, total_reads};
 ghost use Rattle.tablet_state.specs.Snapshots.{Lends};
 ghost use Rattle.tablet_state.specs.State.{Has, faults_of};
 ghost use Rattle.partial_loads.specs.Folded.{HasCode};
+ghost use Rattle.partial_loads.specs.Folds.{overlays};
 ghost use Rattle.partial_loads.specs.Moves.{has_moved};
 ghost use Rattle.core_publish.specs.Publishing.{index_damage};
 ghost use Rattle.core_partial.specs.Prepared.{folded_of};
@@ -18,6 +19,7 @@ ghost use Rattle.core_partial.specs.Moving.{IsOfBlock, IsOldFor, IsOldOf, IsRead
 use crate::PreparedKey;
 use dev_traits::{Damaged, Part, ReadFault, SealedReader, Shown, Store};
 use index_level0::Place;
+use partial_loads::KeyChange;
 use pk_values::{Key, Row, Schema};
 use segment_read::row_at;
 use std::alloc::Global;
@@ -121,6 +123,13 @@ fn row_of<S: Store>(
     Ok(row)
 }
 
+// Whether a change asks for the old row.
+fn asks(change: &KeyChange) -> bool
+    ensures { result ≡ overlays change.now }
+{
+    matches!(change, KeyChange::Keep | KeyChange::Overlay(_))
+}
+
 /// The old row of a key that moved, which has this place now, where its change asks for the old row.
 pub fn old_row<S: Store>(
     alloc: Global,
@@ -145,9 +154,7 @@ pub fn old_row<S: Store>(
     ensures has { (b : Book) → Has S.view state.old b → Has S.view state.new b }
 {
     match now {
-        Some(place) if key.change.overlays() => {
-            Ok(Some(row_of(alloc, state, schema, key, place)?))
-        }
+        Some(place) if asks(&key.change) => { Ok(Some(row_of(alloc, state, schema, key, place)?)) }
         _ => Ok(None),
     }
 }
