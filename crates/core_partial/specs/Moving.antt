@@ -15,10 +15,11 @@ use Rattle.tablet_state.specs.Contents.{Contents, current_number}
 use Rattle.tablet_state.specs.Moving.{keeps_live}
 use Rattle.tablet_state.specs.State.{SegmentView, segment_of}
 use Rattle.partial_loads.specs.Folds.{overlays}
+use Rattle.partial_loads.specs.Folded.{folded_keys}
 use Rattle.partial_loads.specs.Making.{made_rows}
 use Rattle.partial_loads.specs.Moves.{has_moved}
 use Rattle.core_publish.specs.Publishing.{index_damage}
-use Rattle.core_partial.specs.Prepared.{AgainView, AreFilesOf, PreparedPartialView, folded_of, key_of_prepared}
+use Rattle.core_partial.specs.Prepared.{AgainView, AreFilesOf, PreparedPartialView, folded_of}
 use Rattle.core_partial.specs.declared.keys.PreparedKey.{PreparedKey}
 
 -- A key that had no place moved exactly where it has one now. A key that had a place moved exactly where its place now is
@@ -36,7 +37,7 @@ made_places (k ∷ ks) = option_to_list k.made ++ made_places ks
 
 -- what was made again of just these keys
 pub record IsAgain (s : Layout) (keys : List PreparedKey) (again : AgainView) : Type 0 where
-  pub files : AreFilesOf s (map key_of_prepared keys) again.rows again.files again.moves
+  pub files : AreFilesOf s (folded_keys (map folded_of keys)) again.rows again.files again.moves
   pub stale_are : again.stale ≡ made_places keys
 
 -- of a prepared load, exactly the keys that moved were made again

@@ -14,7 +14,7 @@ use Rattle.pk_model.specs.declared.calls.Load.{Load}
 use Rattle.index_level0.specs.declared.place.Place.{Place}
 use Rattle.rowsets.specs.Indexing.{CodeMove, code_moves}
 use Rattle.tablet_state.specs.Readies.{NewSegment}
-use Rattle.partial_loads.specs.Folded.{AreFolded}
+use Rattle.partial_loads.specs.Folded.{AreFolded, folded_keys}
 use Rattle.partial_loads.specs.Making.{made_rows}
 use Rattle.partial_loads.specs.declared.folds.Folded.{Folded}
 use Rattle.core_publish.specs.Prepared.{AreSealedOf, files_of, moves_to}
@@ -55,9 +55,6 @@ located_move k = (k.code, k.was)
 abbrev pub made_move : PreparedKey → CodeMove
 made_move k = (k.code, k.made)
 
-abbrev pub key_of_prepared : PreparedKey → List Value
-key_of_prepared k = k.key
-
 -- The files hold these rows, and the moves tell where the rows of the keys stand in them, numbered from 0.
 pub record AreFilesOf (s : Layout) (keys : List (List Value)) (rows : List (List Value)) (files : List NewSegment)
     (moves : List CodeMove) : Type 0 where
@@ -83,7 +80,7 @@ WasLocatedIn b p = (m : Rows) → rows_at b p.version ≡ Some m → WasMadeOver
 pub record IsPreparedPartial (p : PreparedPartialView) : Type 0 where
   pub lawful : IsLawful p.schema p.load
   pub folds : AreFolded p.schema p.load.given None p.load.ops (map folded_of p.keys)
-  pub files : AreFilesOf p.schema (map key_of_prepared p.keys) p.rows p.files (map made_move p.keys)
+  pub files : AreFilesOf p.schema (folded_keys (map folded_of p.keys)) p.rows p.files (map made_move p.keys)
   pub made : Rows
   pub first : KeysStandFirst p.schema made
   pub over : WasMadeOver p made
