@@ -86,11 +86,11 @@ stored-keeps codes (e ∷ es) code old h is = stored-keeps codes es code (cond (
     go true f = h.0 ∙ ap (get codes) (sym (tells_apart exact_bytes code e.0 f))
     go false f = is
 
-head-same : (a b : List ℕ) (as bs : List (List ℕ)) → a ∷ as ≡ b ∷ bs → a ≡ b
-head-same a b as bs e = cc
+head-same : (a b : List ℕ) (xs ys : List (List ℕ)) → a ∷ xs ≡ b ∷ ys → a ≡ b
+head-same a b xs ys e = cc
 
-tail-same : (a b : List ℕ) (as bs : List (List ℕ)) → a ∷ as ≡ b ∷ bs → as ≡ bs
-tail-same a b as bs e = cc
+tail-same : (a b : List ℕ) (xs ys : List (List ℕ)) → a ∷ xs ≡ b ∷ ys → xs ≡ ys
+tail-same a b xs ys e = cc
 
 none-left : {X : Type 0} (k : List ℕ) (ks : List (List ℕ)) → [] ≡ k ∷ ks → X
 none-left k ks e = cc

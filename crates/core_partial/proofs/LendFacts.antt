@@ -5,7 +5,7 @@ use Rattle.dev_traits.specs.Causes.{Counts, HasReadCause}
 use Rattle.dev_traits.specs.View.{View}
 use Rattle.dev_traits.specs.declared.faults.ReadFault.{ReadFault}
 use Rattle.dev_traits.specs.declared.faults.ReadFault.TheVariants as read
-use Rattle.dev_traits.proofs.Moments.{calm_then}
+use Rattle.dev_traits.proofs.Moments.{calm_none, calm_then}
 use Rattle.pk_model.specs.declared.books.Book.{Book}
 use Rattle.tablet_state.specs.Contents.{Contents}
 use Rattle.tablet_state.specs.Moving.{total_reads}
@@ -40,3 +40,19 @@ cause_back before now faults result le is well failed = record {
   well = λ other. let none = well other in omega arith;
   failed = λ store. let one = failed store in omega arith;
 }
+
+pub rests_then : {S : Type 0} (view : S → View) (a b c : Shown S) → Rests view a b → Rests view b c → Rests view a c
+rests_then view a b c first second = record {
+  calm = calm_then (view a.store) (view b.store) (view c.store) first.calm second.calm;
+  area = second.area ∙ first.area;
+  end = second.end ∙ first.end;
+  contents = second.contents ∙ first.contents;
+  segments = second.segments ∙ first.segments;
+  closed = second.closed ∙ first.closed;
+}
+
+pub has_rests : {S : Type 0} (view : S → View) (a new : Shown S) (b : Book) → Rests view a new → Has view a b → Has view new b
+has_rests view a new b r h = has_lends view a new b (rests_lends view a new r) h
+
+pub lends_none : {S : Type 0} (view : S → View) (a : Shown S) → Lends view a a
+lends_none view a = record { calm = calm_none (view a.store); area = refl; end = refl; contents = refl; segments = refl; closed = refl }

@@ -1,5 +1,5 @@
 -- What publishing a partial load takes out of it, and what is held then.
-use Rattle.std.specs.Prelude.{◌≡◌, ◌⊎◌, ℕ, ◌+◌, List, [], ◌∷◌, ◌++◌, map, length, true, false}
+use Rattle.std.specs.Prelude.{◌≡◌, ◌⊎◌, ℕ, ◌+◌, List, [], ◌∷◌, ◌++◌, map, length, true, false, Bool as Truth, ⊤}
 use Rattle.dev_traits.specs.declared.faults.Damaged.{Damaged}
 use Rattle.dev_traits.specs.declared.faults.ReadFault.{ReadFault}
 use Rattle.dev_traits.specs.declared.faults.ReadFault.TheVariants as read
@@ -70,3 +70,17 @@ abbrev pub reply_to : ReadFault → ℕ → Reply
 reply_to read.StoreFault n = reply.StoreFault n
 reply_to (read.Damaged d) n = reply.Damaged d
 reply_to read.Memory n = reply.Memory
+
+-- a fault that closes
+abbrev pub closes_by : ReadFault → Truth
+closes_by read.Memory = false
+closes_by read.StoreFault = true
+closes_by (read.Damaged d) = true
+
+-- the replies to a load that wasn't refused
+abbrev pub IsFinished : Reply → Type 0
+IsFinished (reply.Published v) = ⊤
+IsFinished (reply.StoreFault n) = ⊤
+IsFinished (reply.Damaged d) = ⊤
+IsFinished reply.Memory = ⊤
+IsFinished r = ⊥

@@ -1,4 +1,5 @@
-ghost use Rattle.std.specs.Prelude.{◌≡◌, ◌+◌, ◌-◌, ◌^◌, ◌≤◌, ℕ, Some, None, false, true, length, min, is_some};
+ghost use Rattle.std.specs.Prelude.{◌≡◌, ◌+◌, ◌-◌, ◌^◌, ◌≤◌, ◌++◌, ℕ, List, map, Some, None, false, true, length, min, is_some};
+ghost use Rattle.std.specs.List.{AllByRecursion};
 ghost use Rattle.dev_traits.specs.Causes.{RoseBy};
 ghost use Rattle.dev_traits.specs.declared.faults.Damaged.{Damaged};
 ghost use Rattle.pk_model.specs.declared.books.Book.{Book};
@@ -8,22 +9,24 @@ ghost use Rattle.pk_model.specs.declared.calls.Reply.TheVariants as reply;
 ghost use Rattle.tablet_state.specs.Contents.{current_number, worn_of};
 ghost use Rattle.tablet_state.specs.Moving.{total_reads};
 ghost use Rattle.tablet_state.specs.Snapshots.{Lends};
-ghost use Rattle.tablet_state.specs.State.{Has, StandsThroughout, Steps, faults_of, refusal_of};
+ghost use Rattle.tablet_state.specs.State.{Has, Rests, StandsThroughout, Steps, faults_of, reads_of, refusal_of};
+ghost use Rattle.partial_loads.specs.Making.{made_rows};
 ghost use Rattle.core_publish.specs.Replies.{TellsShut, shut_after, told_by_reply};
-ghost use Rattle.core_publish.specs.Publishing.{IsPublishing, published_in, uses_up};
-ghost use Rattle.core_partial.specs.Moving.{moved_keys};
-ghost use Rattle.core_partial.specs.Prepared.{WasLocatedIn};
-ghost use Rattle.core_partial.specs.Publishing.{IsHeldWith, IsPublishDamage, emptied, reply_to};
+ghost use Rattle.core_publish.specs.Publishing.{IsPublishing, index_damage, published_in, uses_up};
+ghost use Rattle.core_partial.specs.Moving.{IsAgain, moved_keys};
+ghost use Rattle.core_partial.specs.Prepared.{WasLocatedIn, folded_of};
+ghost use Rattle.core_partial.specs.Publishing.{IsFinished, IsHeldWith, IsPublishDamage, IsWrongFor, closes_by, emptied, reply_to};
 
 use crate::PreparedPartial;
 use crate::again::again_of;
+use crate::prepared::Again;
 use crate::ready::{UnreadyFault, ready_of};
 use dev_traits::{Damaged, FileMaker, Part, ReadFault, SealedReader, Shown, Store};
 use pk_model::Reply;
 use std::alloc::Global;
 use tablet_state::State;
 
-// A fault of a turn closes the state, but for want of memory, and uses the load up.
+// A fault closes the state and uses the load up, but for want of memory.
 fn fail<S: Store>(
     alloc: Global,
     state: &mut State<S>,
@@ -34,10 +37,10 @@ fn fail<S: Store>(
     requires open { state.old.closed ≡ None }
     ensures reply { result ≡ reply_to fault (faults_of S.view state.old) }
     ensures state { state.new ≡ record state.old { closed = shut_after None seq result } }
-    ensures has { (b : Book) → Has S.view state.old b
-        → Has S.view state.new (record b { closed = shut_after None seq result }) }
-    ensures kept { uses_up result ≡ false → prepared.new ≡ prepared.old }
-    ensures spent { uses_up result ≡ true → prepared.new ≡ emptied prepared.old }
+    ensures has { (b : Book) → Has S.view state.old b → closes_by fault ≡ true
+        → Has S.view state.new (record b { closed = Some seq }) }
+    ensures kept { closes_by fault ≡ false → prepared.new ≡ prepared.old }
+    ensures spent { closes_by fault ≡ true → prepared.new ≡ emptied prepared.old }
 {
     let reply = match fault {
         ReadFault::Memory => return Reply::Memory,
@@ -47,6 +50,67 @@ fn fail<S: Store>(
     prepared.use_up(alloc);
     state.close_at(seq);
     reply
+}
+
+// Publishes a load whose moved keys were made again.
+fn finish<S: Store>(
+    alloc: Global,
+    state: &mut State<S>,
+    prepared: &mut PreparedPartial<S::Maker>,
+    again: Again<S::Maker>,
+    seq: u64,
+) -> Reply
+    requires goes { refusal_of state.old ≡ None }
+    requires unspent { prepared.old.spent ≡ false }
+    requires schema { prepared.old.schema ≡ state.old.contents.schema }
+    requires again { IsAgain prepared.old.schema
+        (moved_keys state.old.contents prepared.old.version prepared.old.keys) again }
+    requires over { (b : Book) → Has S.view state.old b → again.rows ≡ made_rows prepared.old.schema
+        prepared.old.load.given b.current
+        (map folded_of (moved_keys state.old.contents prepared.old.version prepared.old.keys)) }
+    ensures turn { (b : Book) → Has S.view state.old b → WasLocatedIn b prepared.old
+        → Steps S.view state.new b seq (call.Load prepared.old.load) result }
+    ensures any_moment { (b : Book) → Has S.view state.old b → WasLocatedIn b prepared.old → state.old.closed ≡ None
+        → StandsThroughout state.old.contents.schema b seq (call.Load prepared.old.load) (S.view state.old.store)
+        (S.view state.new.store) }
+    ensures only { IsFinished result }
+    ensures damaged { (d : Damaged) → result ≡ reply.Damaged d
+        → (d ≡ index_damage) × IsWrongFor state.old.contents prepared.old }
+    ensures intact { (b : Book) → Has S.view state.old b → WasLocatedIn b prepared.old → (d : Damaged)
+        → result ≡ reply.Damaged d → ⊥ }
+    ensures shut { state.new.closed ≡ shut_after None seq result }
+    ensures memory { result ≡ reply.Memory → Rests S.view state.old state.new }
+    ensures contents { state.new.contents.schema ≡ state.old.contents.schema }
+    ensures published { (v : ℕ) → result ≡ reply.Published v
+        → (v ≡ current_number state.old.contents + 1) × (current_number state.new.contents ≡ v) }
+    ensures held { (v : ℕ) → result ≡ reply.Published v
+        → IsHeldWith state.old.contents prepared.old state.new.contents }
+    ensures same { published_in result ≡ None → state.new.contents ≡ state.old.contents }
+    ensures number { (n : ℕ) → result ≡ reply.StoreFault n → n ≡ faults_of S.view state.new }
+    ensures counted { faults_of S.view state.new
+        ≡ min (faults_of S.view state.old + told_by_reply result) (2 ^ 64 - 1) }
+    ensures reads { (more : List (ℕ × ℕ)) × (reads_of state.new.segments ≡ reads_of state.old.segments ++ more)
+        × AllByRecursion (λ p. p.1 ≡ 0) more }
+    ensures honest { (S.view state.new.store).is_honest ≡ (S.view state.old.store).is_honest }
+    ensures told { is_some (S.view state.new.store).seen ≡ is_some (S.view state.old.store).seen }
+    ensures spent { prepared.new.spent ≡ uses_up result }
+    ensures kept { uses_up result ≡ false → prepared.new ≡ prepared.old }
+{
+    match ready_of(alloc, state, prepared, again) {
+        Ok(ready) => match state.apply(ready, seq) {
+            Ok(version) => Reply::Published(version),
+            Err(fault) => fault,
+        },
+        Err(UnreadyFault::Memory) => Reply::Memory,
+        Err(UnreadyFault::Index) => {
+            state.close_at(seq);
+            Reply::Damaged(Damaged {
+                file: 0,
+                part: Part::Area(2),
+                shown: Shown::Form,
+            })
+        }
+    }
 }
 
 /// Publishes a prepared partial load in a turn at the place `seq` of the history. It first makes the rows of the keys
@@ -130,23 +194,8 @@ pub fn publish_partial<S: Store>(
     if let Some(refusal) = state.refuses_load() {
         return refusal;
     }
-    let again = match again_of(alloc, state, prepared) {
-        Ok(again) => again,
-        Err(fault) => return fail(alloc, state, prepared, fault, seq),
-    };
-    match ready_of(alloc, state, prepared, again) {
-        Ok(ready) => match state.apply(ready, seq) {
-            Ok(version) => Reply::Published(version),
-            Err(fault) => fault,
-        },
-        Err(UnreadyFault::Memory) => Reply::Memory,
-        Err(UnreadyFault::Index) => {
-            state.close_at(seq);
-            Reply::Damaged(Damaged {
-                file: 0,
-                part: Part::Area(2),
-                shown: Shown::Form,
-            })
-        }
+    match again_of(alloc, state, prepared) {
+        Ok(again) => finish(alloc, state, prepared, again, seq),
+        Err(fault) => fail(alloc, state, prepared, fault, seq),
     }
 }

@@ -1,5 +1,5 @@
 -- Places of earlier versions that are still live there, and copies of segments.
-use Rattle.std.proofs.Common.{◌≡◌, refl, ap, sym, subst, ◌∙◌, ℕ, zero, suc, ◌+◌, ◌-◌, ◌<◌, ◌≤◌, List, [], ◌∷◌, ◌++◌, length, length-append, map, slice_get, Option, Some, None, Bool, true, false, ◌&&◌, ◌==◌, nat_lt, nat_le, not, cond, if◌then◌else◌, IfSome, arith}
+use Rattle.std.proofs.Common.{◌≡◌, refl, ap, sym, subst, ◌∙◌, ℕ, zero, suc, ◌+◌, ◌-◌, ◌<◌, ◌≤◌, List, [], ◌∷◌, ◌++◌, length, length-append, map, slice_get, slice_set, Option, Some, None, Bool, true, false, ◌&&◌, ◌==◌, nat_lt, nat_le, not, cond, if◌then◌else◌, IfSome, arith}
 use Rattle.std.specs.List.{AllByRecursion, list_any}
 use Rattle.std.specs.FinMap.{get}
 use Rattle.std.proofs.lemmas.Bool.{and_parts, and_from, ltb-true, ltb-false, lt-ltb, leb-true, leb-false, eqb-true}
@@ -10,24 +10,29 @@ use Rattle.pk_values.specs.declared.cells.Value.{Value}
 use Rattle.pk_model.specs.declared.books.Book.{Book}
 use Rattle.pk_model.specs.Books.{rows_at}
 use Rattle.pk_model.specs.Tables.{Rows}
+use Rattle.dev_traits.specs.Image.{Image}
+use Rattle.dev_traits.specs.Reader.{IsNew, SameFile}
 use Rattle.dev_traits.specs.View.{View}
+use Rattle.segment_read.specs.Footers.{HasFooter}
+use Rattle.segment_read.specs.Reads.{KnowsFooter}
 use Rattle.index_level0.specs.declared.place.Place.{Place}
 use Rattle.rowsets.specs.Live.{Part, Version as Rowsets, Files, HasKey, StandsFor, is_dead, live, parts_of}
 use Rattle.rowsets.specs.Books.{Held, held_at}
 use Rattle.rowsets.proofs.BookFacts.{kept_are_held}
 use Rattle.journal_form.specs.declared.records.ListedFile.{ListedFile}
+use Rattle.journal_form.specs.declared.records.NewFile.{NewFile}
 use Rattle.journal_form.specs.Versions.{Rowset as ListedRowset, file_numbered, files_of}
 use Rattle.journal_form.specs.Meaning.{Entry}
 use Rattle.kept_versions.specs.Files.{is_live, row_lives}
 use Rattle.tablet_state.specs.Contents.{Contents, all_rowsets, begun_of, current_number, index_of, standing_of, version_of, versions_of}
 use Rattle.tablet_state.specs.Holding.{Holds, held}
-use Rattle.tablet_state.specs.Moving.{HasRowOf, KeysAreTold, PlacesAreLive, TellsKey, keeps_live, lives_in}
+use Rattle.tablet_state.specs.Moving.{HasAt, HasRowOf, IsCopyOf, KeysAreTold, PlacesAreLive, TellsKey, keeps_live, lives_in, total_reads}
 use Rattle.tablet_state.specs.Snapshots.{IsKept, rowsets_at}
-use Rattle.tablet_state.specs.Stands.{part_of, rowsets_of, told_file}
-use Rattle.tablet_state.specs.State.{Has, HasBook, HasOwn, IsReadAs, SegmentView, Shown, segment_of}
+use Rattle.tablet_state.specs.Stands.{IsSegment, part_of, rowsets_of, told_file}
+use Rattle.tablet_state.specs.State.{Has, HasBook, HasOwn, IsAttached, IsReadAs, SegmentView, Shown, segment_of}
 use Rattle.tablet_state.proofs.FileFacts.{all-map}
-use Rattle.tablet_state.proofs.KeptFacts.{IsHeldFile, kept_there, version_held}
-use Rattle.tablet_state.proofs.Lending.{get_last, none_some, some_one}
+use Rattle.tablet_state.proofs.KeptFacts.{HonestReads, IsHeldFile, kept_there, version_held}
+use Rattle.tablet_state.proofs.Lending.{found_there, get_last, none_some, some_one}
 use Rattle.tablet_state.proofs.RowFacts.{files_of_last}
 use Rattle.tablet_state.proofs.VersionFacts.{parts, parts_are}
 
@@ -231,3 +236,73 @@ module _ (c : Contents) (stored : Files) (kept : List Entry) (b : Book) (h : Hol
 
 pub keys_are_told : KeysAreTold
 keys_are_told c stored kept b h k = record { absent = absent c stored kept b h k; stood = stood c stored kept b h k }
+
+-- ---- copies
+
+pub total_set : (gs : List SegmentView) (i : ℕ) (old new : SegmentView) → slice_get gs i ≡ Some old → new.reader.reads ≤ old.reader.reads + 1 → total_reads (slice_set gs i new) ≤ total_reads gs + 1
+total_set [] i old new at le = absurd (none_some old at)
+total_set (g ∷ gs) zero old new at le = let same = ap (λ (x : SegmentView). x.reader.reads) (some_one g old at) in omega arith
+total_set (g ∷ gs) (suc i) old new at le = let more = total_set gs i old new at le in omega arith
+
+pub copied : (gs : List SegmentView) (file place : ℕ) (x copy : SegmentView) → slice_get gs place ≡ Some x → slice_get gs place ≡ segment_of gs file → copy.number ≡ x.number → copy.footer ≡ x.footer
+    → SameFile x.reader copy.reader → IsNew copy.reader → IsCopyOf gs file copy
+copied gs file place x copy at is number footer same new =
+    let there : segment_of gs file ≡ Some x = sym is ∙ at in
+    let found = found_there gs file x there in
+    record { segment = x; there = there; number = number ∙ found.2; footer = footer; same = same; new = new }
+
+pub copy_known : (s : Layout) (gs : List SegmentView) (file : ℕ) (copy : SegmentView) → AllByRecursion (IsAttached s) gs → IsCopyOf gs file copy → KnowsFooter s copy.reader copy.footer
+copy_known s gs file copy all is =
+    let found = found_there gs file is.segment is.there in
+    let attached : IsAttached s is.segment = at_place (IsAttached s) gs found.0 is.segment all found.1 in
+    λ bytes told. subst (λ (f : Footer). HasFooter s f bytes) (sym is.footer) (attached.known bytes (sym is.same.bytes ∙ told))
+  where
+    at_place : {X : Type 0} (P : X → Type 0) (xs : List X) (i : ℕ) (x : X) → AllByRecursion P xs → slice_get xs i ≡ Some x → P x
+    at_place P [] i x h e = absurd (none_some x e)
+    at_place P (y ∷ xs) zero x h e = subst P (some_one y x e) h.0
+    at_place P (y ∷ xs) (suc i) x h e = at_place P xs i x h.1 e
+
+-- a file that has a live row
+live_file : (P : ListedFile → Type 0) (stored : Files) (fs : List ListedFile) (p : Place) (row : List Value) → AllByRecursion P fs → live stored (parts fs) p ≡ Some row → (f : ListedFile) × (f.file ≡ p.segment) × P f
+live_file P stored [] p row all is = absurd (none_some row is)
+live_file P stored (f ∷ fs) p row all is = go (f.file == p.segment) refl is
+  where
+    go : (a : Bool) → (f.file == p.segment) ≡ a → cond a (cond (is_dead (part_of f) p.row) None (slice_get (stored f.file) p.row)) (live stored (parts fs) p) ≡ Some row → (f : ListedFile) × (f.file ≡ p.segment) × P f
+    go true e g = (f, eqb-true f.file p.segment e, all.0)
+    go false e g = live_file P stored fs p row all.1 g
+
+record IsRead (s : Layout) (stored : Files) (segs : List SegmentView) (image : Image) (f : ListedFile) : Type 0 where
+  read : IsReadAs s stored segs (told_file f)
+  sealed : IsSegment s (stored f.file) (told_file f) image
+
+both : (s : Layout) (stored : Files) (segs : List SegmentView) (image : Image) (fs : List ListedFile) → AllByRecursion (λ (f : ListedFile). IsReadAs s stored segs (told_file f)) fs
+    → AllByRecursion (λ (f : ListedFile). IsSegment s (stored f.file) (told_file f) image) fs → AllByRecursion (IsRead s stored segs image) fs
+both s stored segs image [] h g = tt
+both s stored segs image (f ∷ fs) h g = (record { read = h.0; sealed = g.0 }, both s stored segs image fs h.1 g.1)
+
+pub copy_rows : {S : Type 0} (view : S → View) (st : Shown S) → HonestReads view → (b : Book) (k : List Value) (p : Place) (copy : SegmentView) → IsCopyOf st.segments p.segment copy → Has view st b → st.closed ≡ None
+    → index_of st.contents k ≡ Some p → HasAt st.contents.schema copy p.row (get b.current k)
+copy_rows view st reads b k p copy is h open_ at =
+    let c = st.contents in
+    let book : HasBook (view st.store) st.area st.end c st.segments b = h.opened open_ in
+    let stored = book.images.stored in
+    let holds = book.images.holds.holds in
+    let has = (holds.exact k p).0 at in
+    let row = has.0 in
+    let image = reads st.store book.images.journal.settled.honest in
+    let fs = files_of c.current in
+    let read : AllByRecursion (λ (f : ListedFile). IsReadAs c.schema stored st.segments (told_file f)) fs =
+    all-map (IsReadAs c.schema stored st.segments) told_file fs (files_of_last (IsReadAs c.schema stored st.segments) (map (version_of c.schema) c.older) (version_of c.schema c.current) book.read) in
+    let sealed : AllByRecursion (λ (f : ListedFile). IsSegment c.schema (stored f.file) (told_file f) image.0) fs =
+    all-map (λ (f : NewFile). IsSegment c.schema (stored f.file) f image.0) told_file fs
+    (files_of_last (λ (f : NewFile). IsSegment c.schema (stored f.file) f image.0) (map (version_of c.schema) c.older) (version_of c.schema c.current) (book.images.files image.0 image.2)) in
+    let f = live_file (IsRead c.schema stored st.segments image.0) stored fs p row (both c.schema stored st.segments image.0 fs read sealed) (ap (λ (ps : List Part). live stored ps p) (sym (parts_are c.current)) ∙ has.1.0) in
+    let same : is.segment ≡ f.2.read.segment = some_one is.segment f.2.read.segment (sym is.there ∙ ap (segment_of st.segments) (sym f.1) ∙ f.2.read.there) in
+    let here : slice_get (stored p.segment) p.row ≡ Some row = live_row stored (parts_of (rowsets_of (versions_of c).current)) p row has.1.0 in
+    record {
+      file = _;
+      told = is.same.bytes ∙ ap (λ (g : SegmentView). g.reader.bytes) same ∙ f.2.read.bytes;
+      rows = stored f.0.file;
+      is = record { are = f.2.sealed.lawful; footer_is = is.footer ∙ ap (λ (g : SegmentView). g.footer) same ∙ f.2.read.footer; file_is = refl };
+      at = ap (λ (n : ℕ). slice_get (stored n) p.row) f.1 ∙ here ∙ sym ((holds.current.same k row).1 (p, has.1.0, has.1.1));
+    }
