@@ -4,3 +4,9 @@ pub mod OverFacts
 pub mod LendFacts
 pub mod FoundFacts
 pub mod RemakeFacts
+pub mod TurnFacts
+pub mod HeldFacts
+pub mod LoopFacts
+pub mod ReadFacts
+pub mod DamageFacts
+pub mod KeyFacts

@@ -133,7 +133,7 @@ module _ {S : Type 0} (view : S → View) (st : Shown S) (b : Book) (h : Has vie
         (λ found among.
         let k = key_told (index_of c) (keys_in p.keys) q found in
         let has = (book.images.holds.holds.exact k.0 q).0 k.1 in
-        let named = live-named book.images.stored (parts_of (rowsets_of (versions_of c).current)) q has.0 has.1.0 in
+        let named = live-named book.images.stored (parts_of (rowsets_of (versions_of c).current)) q has.0 has.1 in
         let apart = (new c.schema book.images.stored (standing_of c book.images.kept) (index_of c) (begun_of c) b book.images.holds c.next_file (files_of p.rows ++ files_of again.rows) (omega arith)).0 in
         absurd (cc (sym (apart q.segment named) ∙ load_ready.of_new q among)))
         is_two.1

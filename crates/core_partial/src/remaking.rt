@@ -153,8 +153,11 @@ pub fn old_row<S: Store>(
     ensures lends { Lends S.view state.old state.new }
     ensures has { (b : Book) → Has S.view state.old b → Has S.view state.new b }
 {
-    match now {
-        Some(place) if asks(&key.change) => { Ok(Some(row_of(alloc, state, schema, key, place)?)) }
-        _ => Ok(None),
+    let Some(place) = now else {
+        return Ok(None);
+    };
+    if !asks(&key.change) {
+        return Ok(None);
     }
+    Ok(Some(row_of(alloc, state, schema, key, place)?))
 }

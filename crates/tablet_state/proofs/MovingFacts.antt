@@ -182,7 +182,7 @@ places_live view st own b h open_ k p at =
     all-map (IsReadAs c.schema stored st.segments) told_file (files_of c.current)
     (files_of_last (IsReadAs c.schema stored st.segments) (map (version_of c.schema) c.older) (version_of c.schema c.current) book.read) in
     let lives : is_live c.current p ≡ true =
-    rows_lives c.schema stored st.segments (files_of c.current) p has.0 held read (ap (λ (ps : List Part). live stored ps p) (sym (parts_are c.current)) ∙ has.1.0) in
+    rows_lives c.schema stored st.segments (files_of c.current) p has.0 held read (ap (λ (ps : List Part). live stored ps p) (sym (parts_are c.current)) ∙ has.1) in
     let kept : IsKept c (current_number c) = (omega arith, omega arith) in
     sym (keeps_kept c (current_number c) p true kept (subst (λ (o : Option (List ListedRowset)). IfSome o (λ (rs : List ListedRowset). true ≡ is_live rs p)) (sym last) (sym lives)))
 
@@ -213,15 +213,15 @@ module _ (c : Contents) (stored : Files) (kept : List Entry) (b : Book) (h : Hol
       go None e = e
       go (Some row) e =
           let at = (h.holds.current.same k row).0 e in
-          absurd (none_some at.0 (sym none ∙ (h.holds.exact k at.0).1 (row, at.1.0, at.1.1)))
+          absurd (none_some at.0 (sym none ∙ (h.holds.exact k at.0).1 (row, at.1, at.2)))
 
   stood : (v : ℕ) (p : Place) → index_of c k ≡ Some p → keeps_live c v p ≡ true → (m : Rows) × (rows_at b v ≡ Some m) × (get b.current k ≡ get m k)
   stood v p at e =
       let x = kept_by c v p e in
       let has = (h.holds.exact k p).0 at in
       let row = has.0 in
-      let here : slice_get (stored p.segment) p.row ≡ Some row = live_row stored (parts_of (rowsets_of (versions_of c).current)) p row has.1.0 in
-      let now : get b.current k ≡ Some row = (h.holds.current.same k row).1 (p, has.1.0, has.1.1) in
+      let here : slice_get (stored p.segment) p.row ≡ Some row = live_row stored (parts_of (rowsets_of (versions_of c).current)) p row has.1 in
+      let now : get b.current k ≡ Some row = (h.holds.current.same k row).1 (p, has.1, has.2) in
       let floor : c.floor ≡ b.floor = h.floor in
       let in_held : held_at is_held b.floor v ≡ Some (map parts x.rowsets) =
       ap (λ (t : Bool). if t then None else slice_get (is_held.older ++ is_held.current ∷ []) (v - b.floor)) (lt_not v b.floor (let le = x.floor in omega arith))
@@ -232,7 +232,7 @@ module _ (c : Contents) (stored : Files) (kept : List Entry) (b : Book) (h : Hol
       let same : was.0 ≡ map parts x.rowsets = some_one was.0 (map parts x.rowsets) (sym was.1 ∙ in_held) in
       let files : parts_of was.0 ≡ parts (files_of x.rowsets) = ap parts_of same ∙ parts_are x.rowsets in
       let then : live stored (parts_of was.0) p ≡ Some row = ap (λ (ps : List Part). live stored ps p) files ∙ lives_then stored (files_of x.rowsets) p row x.lives here in
-      (m.0, m.1, now ∙ sym ((was.2.same k row).1 (p, then, has.1.1)))
+      (m.0, m.1, now ∙ sym ((was.2.same k row).1 (p, then, has.2)))
 
 pub keys_are_told : KeysAreTold
 keys_are_told c stored kept b h k = record { absent = absent c stored kept b h k; stood = stood c stored kept b h k }
@@ -296,13 +296,13 @@ copy_rows view st reads b k p copy is h open_ at =
     let sealed : AllByRecursion (λ (f : ListedFile). IsSegment c.schema (stored f.file) (told_file f) image.0) fs =
     all-map (λ (f : NewFile). IsSegment c.schema (stored f.file) f image.0) told_file fs
     (files_of_last (λ (f : NewFile). IsSegment c.schema (stored f.file) f image.0) (map (version_of c.schema) c.older) (version_of c.schema c.current) (book.images.files image.0 image.2)) in
-    let f = live_file (IsRead c.schema stored st.segments image.0) stored fs p row (both c.schema stored st.segments image.0 fs read sealed) (ap (λ (ps : List Part). live stored ps p) (sym (parts_are c.current)) ∙ has.1.0) in
+    let f = live_file (IsRead c.schema stored st.segments image.0) stored fs p row (both c.schema stored st.segments image.0 fs read sealed) (ap (λ (ps : List Part). live stored ps p) (sym (parts_are c.current)) ∙ has.1) in
     let same : is.segment ≡ f.2.read.segment = some_one is.segment f.2.read.segment (sym is.there ∙ ap (segment_of st.segments) (sym f.1) ∙ f.2.read.there) in
-    let here : slice_get (stored p.segment) p.row ≡ Some row = live_row stored (parts_of (rowsets_of (versions_of c).current)) p row has.1.0 in
+    let here : slice_get (stored p.segment) p.row ≡ Some row = live_row stored (parts_of (rowsets_of (versions_of c).current)) p row has.1 in
     record {
       file = _;
       told = is.same.bytes ∙ ap (λ (g : SegmentView). g.reader.bytes) same ∙ f.2.read.bytes;
       rows = stored f.0.file;
       is = record { are = f.2.sealed.lawful; footer_is = is.footer ∙ ap (λ (g : SegmentView). g.footer) same ∙ f.2.read.footer; file_is = refl };
-      at = ap (λ (n : ℕ). slice_get (stored n) p.row) f.1 ∙ here ∙ sym ((holds.current.same k row).1 (p, has.1.0, has.1.1));
+      at = ap (λ (n : ℕ). slice_get (stored n) p.row) f.1 ∙ here ∙ sym ((holds.current.same k row).1 (p, has.1, has.2));
     }
