@@ -10,3 +10,4 @@ pub mod LoopFacts
 pub mod ReadFacts
 pub mod DamageFacts
 pub mod KeyFacts
+pub mod FewFacts

@@ -1,5 +1,5 @@
 -- Rows of keys that moved, made again one after the other.
-use Rattle.std.proofs.Common.{◌≡◌, refl, ap, sym, subst, ◌∙◌, ℕ, suc, ◌+◌, List, [], ◌∷◌, ◌++◌, map, length, Option, Some, None, option_to_list, Bool as Truth, true, false, ◌&&◌, cond, T, append-nil, append_assoc, arith}
+use Rattle.std.proofs.Common.{◌≡◌, refl, ap, sym, subst, ◌∙◌, ℕ, zero, suc, ◌+◌, ◌≤◌, List, [], ◌∷◌, ◌++◌, map, take, length, Option, Some, None, option_to_list, Bool as Truth, true, false, ◌&&◌, cond, T, append-nil, append_assoc, arith}
 use Rattle.std.specs.Prelude.{All, IfSome, IsTrue}
 use Rattle.std.specs.List.{AllByRecursion, filter}
 use Rattle.std.specs.FinMap.{get}
@@ -204,3 +204,12 @@ module _ (s : Layout) (load : Load) (clean : schema_fault s.columns s.keys ≡ N
       are.moves
       ∙ entries-are s (results_of s load.given ks are.olds) remade.results.rows.items (are.rows ∙ sym (left-made s load.given ks are.olds)) (all-rise s load.given ks are.olds rise) (own-all s load clean lawful ks are.olds have coded are.fit)
       ∙ ap (λ keys. code_moves (key_code s) (moves_to s 0 (files_of remade.results.rows.items) keys)) (same-keys s load.given ks are.olds are.fit)
+
+pub long-front : {X : Type 0} (test : X → Truth) (xs : List X) (n : ℕ) → length (filter test (take n xs)) ≤ length (filter test xs)
+long-front test [] n = omega arith
+long-front test (x ∷ xs) zero = omega arith
+long-front test (x ∷ xs) (suc n) = go (test x) (long-front test xs n)
+  where
+    go : (t : Truth) → length (filter test (take n xs)) ≤ length (filter test xs) → length (cond t (x ∷ filter test (take n xs)) (filter test (take n xs))) ≤ length (cond t (x ∷ filter test xs) (filter test xs))
+    go true le = omega arith
+    go false le = le

@@ -4,6 +4,7 @@ use Rattle.std.specs.FinMap.{get}
 use Rattle.std.specs.List.{filter}
 use Rattle.pk_values.specs.Schemas.{Layout, fits_row, key_of}
 use Rattle.pk_values.specs.declared.cells.Value.{Value}
+use Rattle.pk_model.specs.declared.books.Book.{Book}
 use Rattle.pk_model.specs.Tables.{Rows}
 use Rattle.dev_traits.specs.declared.faults.Damaged.{Damaged}
 use Rattle.dev_traits.specs.declared.faults.Part.TheVariants as part
@@ -19,7 +20,7 @@ use Rattle.partial_loads.specs.Folded.{folded_keys}
 use Rattle.partial_loads.specs.Making.{made_rows}
 use Rattle.partial_loads.specs.Moves.{has_moved}
 use Rattle.core_publish.specs.Publishing.{index_damage}
-use Rattle.core_partial.specs.Prepared.{AgainView, AreFilesOf, PreparedPartialView, folded_of}
+use Rattle.core_partial.specs.Prepared.{AgainView, AreFilesOf, PreparedPartialView, WasLocatedIn, folded_of}
 use Rattle.core_partial.specs.declared.keys.PreparedKey.{PreparedKey}
 
 -- A key that had no place moved exactly where it has one now. A key that had a place moved exactly where its place now is
@@ -44,9 +45,18 @@ pub record IsAgain (s : Layout) (keys : List PreparedKey) (again : AgainView) : 
 abbrev pub IsSettled : Contents → PreparedPartialView → Type 0
 IsSettled c p = IsAgain p.schema (moved_keys c p.version p.keys) p.again
 
--- their rows were made over the rows of this map
+-- the rows of the keys that moved were made again over the rows of this map
+abbrev pub IsAgainOver : Contents → PreparedPartialView → AgainView → Rows → Type 0
+IsAgainOver c p again m = again.rows ≡ made_rows p.schema p.load.given m (map folded_of (moved_keys c p.version p.keys))
+
 abbrev pub IsSettledOver : Contents → PreparedPartialView → Rows → Type 0
-IsSettledOver c p m = p.again.rows ≡ made_rows p.schema p.load.given m (map folded_of (moved_keys c p.version p.keys))
+IsSettledOver c p m = IsAgainOver c p p.again m
+
+-- the rows were made over those of the version at which the load was located, as far as the book keeps it, and made
+-- again over those of the current one
+pub record IsOver (c : Contents) (b : Book) (p : PreparedPartialView) (again : AgainView) : Type 0 where
+  pub located : WasLocatedIn b p
+  pub remade : IsAgainOver c p again b.current
 
 -- ---- damage
 

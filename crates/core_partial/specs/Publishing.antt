@@ -1,5 +1,5 @@
 -- What publishing a partial load takes out of it, and what is held then.
-use Rattle.std.specs.Prelude.{◌≡◌, ◌⊎◌, ℕ, ◌+◌, List, [], ◌∷◌, ◌++◌, map, length, true, false, Bool as Truth, ⊤}
+use Rattle.std.specs.Prelude.{◌≡◌, ◌⊎◌, ℕ, ◌+◌, List, [], ◌∷◌, ◌++◌, map, length, true, false, Bool as Truth, ⊤, Option, Some, None, ◌<◌}
 use Rattle.dev_traits.specs.declared.faults.Damaged.{Damaged}
 use Rattle.dev_traits.specs.declared.faults.ReadFault.{ReadFault}
 use Rattle.dev_traits.specs.declared.faults.ReadFault.TheVariants as read
@@ -84,3 +84,8 @@ IsFinished (reply.StoreFault n) = ⊤
 IsFinished (reply.Damaged d) = ⊤
 IsFinished reply.Memory = ⊤
 IsFinished r = ⊥
+
+-- a place in one of so many files
+abbrev pub IsBelow : ℕ → Option Place → Type 0
+IsBelow n None = ⊤
+IsBelow n (Some p) = p.segment < n

@@ -12,7 +12,7 @@ ghost use Rattle.partial_loads.specs.Folded.{HasCode};
 ghost use Rattle.partial_loads.specs.Making.{made_rows};
 ghost use Rattle.core_publish.specs.Prepared.{AreSealedOf, files_of};
 ghost use Rattle.core_partial.specs.Again.{AreRemade, RemakesMore, RemakesOver};
-ghost use Rattle.core_partial.specs.Moving.{IsAgain, IsReadDamage, moved_keys};
+ghost use Rattle.core_partial.specs.Moving.{IsAgain, IsAgainOver, IsReadDamage, moved_keys};
 ghost use Rattle.core_partial.specs.Prepared.{folded_of};
 
 use crate::prepared::Again;
@@ -151,8 +151,7 @@ pub fn again_of<S: Store>(
     ensures again { IfOk result (IsAgain prepared.now.schema
         (moved_keys state.old.contents prepared.now.version prepared.now.keys)) }
     ensures over { IfOk result (λ again. (b : Book) → Has S.view state.old b → state.old.closed ≡ None
-        → again.rows ≡ made_rows prepared.now.schema prepared.now.load.given b.current
-        (map folded_of (moved_keys state.old.contents prepared.now.version prepared.now.keys))) }
+        → IsAgainOver state.old.contents prepared.now again b.current) }
     ensures damaged { IfErr result (λ e. OnDamage e
         (IsReadDamage state.old.contents state.old.segments prepared.now.keys)) }
     ensures intact { IfErr result (λ e. OnDamage e (λ _. (b : Book) → Has S.view state.old b

@@ -57,6 +57,21 @@ impl<M: FileMaker> Again<M> {
         }
     }
 
+    // The moves, the superseded rows and the files.
+    pub(crate) fn into_parts(self) -> (Vec<(KeyBytes, Option<Place>)>, Vec<Place>, Vec<Made<M>>)
+        ensures moves { result.0.items ≡ self.moves }
+        ensures stale { result.1.items ≡ self.stale }
+        ensures files { map (λ f. (M.sealed_bytes f.sealed, f.footer)) result.2.items ≡ self.files }
+    {
+        let Again {
+            moves,
+            stale,
+            rows: _,
+            files,
+        } = self;
+        (moves, stale, files)
+    }
+
     // Of how many keys.
     pub(crate) fn moved(&self) -> u64
         ensures { result ≡ length self.now.moves }

@@ -1,4 +1,4 @@
-ghost use Rattle.std.specs.Prelude.{◌≡◌, ◌+◌, ◌-◌, ◌^◌, ◌≤◌, ◌++◌, ℕ, List, map, Some, None, false, true, length, min, is_some};
+ghost use Rattle.std.specs.Prelude.{◌≡◌, ◌+◌, ◌-◌, ◌^◌, ◌≤◌, ◌++◌, ℕ, List, Some, None, false, true, length, min, is_some};
 ghost use Rattle.std.specs.List.{AllByRecursion};
 ghost use Rattle.dev_traits.specs.Causes.{RoseBy};
 ghost use Rattle.dev_traits.specs.declared.faults.Damaged.{Damaged};
@@ -10,11 +10,10 @@ ghost use Rattle.tablet_state.specs.Contents.{current_number, worn_of};
 ghost use Rattle.tablet_state.specs.Moving.{total_reads};
 ghost use Rattle.tablet_state.specs.Snapshots.{Lends};
 ghost use Rattle.tablet_state.specs.State.{Has, Rests, StandsThroughout, Steps, faults_of, reads_of, refusal_of};
-ghost use Rattle.partial_loads.specs.Making.{made_rows};
 ghost use Rattle.core_publish.specs.Replies.{TellsShut, shut_after, told_by_reply};
 ghost use Rattle.core_publish.specs.Publishing.{IsPublishing, index_damage, published_in, uses_up};
-ghost use Rattle.core_partial.specs.Moving.{IsAgain, moved_keys};
-ghost use Rattle.core_partial.specs.Prepared.{WasLocatedIn, folded_of};
+ghost use Rattle.core_partial.specs.Moving.{IsAgain, IsOver, moved_keys};
+ghost use Rattle.core_partial.specs.Prepared.{WasLocatedIn};
 ghost use Rattle.core_partial.specs.Publishing.{IsFinished, IsHeldWith, IsPublishDamage, IsWrongFor, closes_by, emptied, reply_to};
 
 use crate::PreparedPartial;
@@ -65,18 +64,18 @@ fn finish<S: Store>(
     requires schema { prepared.old.schema ≡ state.old.contents.schema }
     requires again { IsAgain prepared.old.schema
         (moved_keys state.old.contents prepared.old.version prepared.old.keys) again }
-    requires over { (b : Book) → Has S.view state.old b → again.rows ≡ made_rows prepared.old.schema
-        prepared.old.load.given b.current
-        (map folded_of (moved_keys state.old.contents prepared.old.version prepared.old.keys)) }
-    ensures turn { (b : Book) → Has S.view state.old b → WasLocatedIn b prepared.old
+    ensures turn { (b : Book) → Has S.view state.old b
+        → IsOver state.old.contents b prepared.old again
         → Steps S.view state.new b seq (call.Load prepared.old.load) result }
-    ensures any_moment { (b : Book) → Has S.view state.old b → WasLocatedIn b prepared.old → state.old.closed ≡ None
+    ensures any_moment { (b : Book) → Has S.view state.old b
+        → IsOver state.old.contents b prepared.old again → state.old.closed ≡ None
         → StandsThroughout state.old.contents.schema b seq (call.Load prepared.old.load) (S.view state.old.store)
         (S.view state.new.store) }
     ensures only { IsFinished result }
     ensures damaged { (d : Damaged) → result ≡ reply.Damaged d
         → (d ≡ index_damage) × IsWrongFor state.old.contents prepared.old }
-    ensures intact { (b : Book) → Has S.view state.old b → WasLocatedIn b prepared.old → (d : Damaged)
+    ensures intact { (b : Book) → Has S.view state.old b
+        → IsOver state.old.contents b prepared.old again → (d : Damaged)
         → result ≡ reply.Damaged d → ⊥ }
     ensures shut { state.new.closed ≡ shut_after None seq result }
     ensures memory { result ≡ reply.Memory → Rests S.view state.old state.new }

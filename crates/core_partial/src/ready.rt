@@ -5,14 +5,13 @@ ghost use Rattle.rowsets.specs.Steps.{HaveSame};
 ghost use Rattle.tablet_state.specs.Contents.{index_of};
 ghost use Rattle.tablet_state.specs.State.{Has, Rests, faults_of, refusal_of};
 ghost use Rattle.tablet_state.specs.Readies.{IsChangeOf, IsMade};
-ghost use Rattle.core_publish.specs.Publication.{IsInFour, entry_from, placed_from};
+ghost use Rattle.core_publish.specs.Publication.{entry_from, placed_from};
 ghost use Rattle.std.specs.List.{AllByRecursion};
 ghost use Rattle.core_publish.specs.Publishing.{StandsTwice, is_below, stored_places};
-ghost use Rattle.core_partial.specs.Moving.{IsAgain, moved_keys};
-ghost use Rattle.core_partial.specs.Prepared.{WasLocatedIn, folded_of, made_move};
-ghost use Rattle.core_partial.specs.Publishing.{IsTakenOf, IsWrongFor, dead_places, emptied, moves_after, place_from};
+ghost use Rattle.core_partial.specs.Moving.{IsAgain, IsOver, moved_keys};
+ghost use Rattle.core_partial.specs.Prepared.{made_move};
+ghost use Rattle.core_partial.specs.Publishing.{IsBelow, IsTakenOf, IsWrongFor, emptied, moves_after, place_from};
 ghost use Rattle.core_partial.specs.declared.ready.UnreadyFault.TheVariants as fault;
-ghost use Rattle.partial_loads.specs.Making.{made_rows};
 
 use crate::prepared::Again;
 use crate::{PreparedKey, PreparedPartial};
@@ -38,6 +37,9 @@ impl From<AllocError> for UnreadyFault {
     }
 }
 
+/// No load has so many files.
+const MOST_FILES: usize = 1 << 31;
+
 // Whether the place is one of an earlier file, or of an earlier row of the same file.
 fn is_below(p: &Place, q: &Place) -> bool
     ensures { result ≡ is_below p.now q.now }
@@ -54,7 +56,7 @@ fn places_to_die<S: Store>(
     first: u64,
 ) -> Result<Vec<Place>, AllocError>
     requires fits { first < 2 ^ 62 }
-    requires four { AllByRecursion (λ p. p.segment < 4) stale.now }
+    requires few { AllByRecursion (λ p. p.segment < 2 ^ 31) stale.now }
     ensures { IfOk result (λ places. places.items ≡ stored_places state.now.contents.codes (map made_move keys.now)
         ++ map (place_from first) stale.now) }
 {
@@ -82,7 +84,7 @@ fn dead_of<S: Store>(
     first: u64,
 ) -> Result<Vec<Place>, UnreadyFault>
     requires fits { first < 2 ^ 62 }
-    requires four { AllByRecursion (λ p. p.segment < 4) stale.now }
+    requires few { AllByRecursion (λ p. p.segment < 2 ^ 31) stale.now }
     ensures rise { IfOk result (λ places. PlacesRise places.items) }
     ensures found { IfOk result (λ places. HaveSame places.items
         (stored_places state.now.contents.codes (map made_move keys.now) ++ map (place_from first) stale.now)) }
@@ -99,7 +101,7 @@ fn dead_of<S: Store>(
 
 // A place in files that are numbered from `first` on, where it was in files that are numbered from 0.
 fn placed_from(place: Option<Place>, first: u64) -> Option<Place>
-    requires four { IsInFour place }
+    requires few { IsBelow (2 ^ 31) place }
     requires fits { first < 2 ^ 63 }
     ensures { result ≡ placed_from first place }
 {
@@ -120,8 +122,8 @@ fn moves_of(
     first: u64,
     more: u64,
 ) -> Result<Vec<(KeyBytes, Option<Place>)>, AllocError>
-    requires four { AllByRecursion (λ k. IsInFour k.made) keys.now }
-    requires moves_four { AllByRecursion (λ e. IsInFour e.1) moves.now }
+    requires few { AllByRecursion (λ k. IsBelow (2 ^ 31) k.made) keys.now }
+    requires few_again { AllByRecursion (λ e. IsBelow (2 ^ 31) e.1) moves.now }
     requires fits { first < 2 ^ 63 }
     requires more_fits { more < 2 ^ 63 }
     ensures { IfOk result (λ index. index.items
@@ -153,15 +155,13 @@ pub fn ready_of<S: Store>(
     requires schema { prepared.old.schema ≡ state.old.contents.schema }
     requires again { IsAgain prepared.old.schema
         (moved_keys state.old.contents prepared.old.version prepared.old.keys) again }
-    requires over { (b : Book) → Has S.view state.old b → again.rows ≡ made_rows prepared.old.schema
-        prepared.old.load.given b.current
-        (map folded_of (moved_keys state.old.contents prepared.old.version prepared.old.keys)) }
     ensures made { IfOk result (λ ready. IsMade (S.view state.new.store) state.new.contents state.new.room
         (map (λ m. (S.Maker.sealed_bytes m.sealed, m.footer)) ready.change.files.items) ready.change.dead.items
         ready.change.index.items ready.body ready.current) }
 
     // Over a book that the state has, what is ready is the load's change.
-    ensures change { IfOk result (λ ready. (b : Book) → Has S.view state.old b → WasLocatedIn b prepared.old
+    ensures change { IfOk result (λ ready. (b : Book) → Has S.view state.old b
+        → IsOver state.old.contents b prepared.old again
         → IsChangeOf state.old.contents.schema (index_of state.old.contents) b prepared.old.load
         state.old.contents.next_file (map (λ m. (S.Maker.sealed_bytes m.sealed, m.footer)) ready.change.files.items)
         ready.change.dead.items ready.change.index.items) }
@@ -170,7 +170,8 @@ pub fn ready_of<S: Store>(
         (map (λ m. (S.Maker.sealed_bytes m.sealed, m.footer)) ready.change.files.items) ready.change.dead.items
         ready.change.index.items) }
     ensures wrong { IsErrOf result fault.Index → IsWrongFor state.old.contents prepared.old }
-    ensures intact { (b : Book) → Has S.view state.old b → WasLocatedIn b prepared.old → IfErr result (λ e. e ≡ fault.Memory) }
+    ensures intact { (b : Book) → Has S.view state.old b
+        → IsOver state.old.contents b prepared.old again → IfErr result (λ e. e ≡ fault.Memory) }
     ensures rests { Rests S.view state.old state.new }
     ensures faults { faults_of S.view state.new ≡ faults_of S.view state.old }
     ensures has { (b : Book) → Has S.view state.old b → Has S.view state.new b }
@@ -181,12 +182,11 @@ pub fn ready_of<S: Store>(
     // No schema has a fault.
     let _columns = state.schema().columns();
     let first = state.next_file();
-    let Again {
-        moves,
-        stale,
-        rows: _,
-        files,
-    } = again;
+    let (moves, stale, files) = again.into_parts();
+    let count = prepared.count();
+    if count >= MOST_FILES || files.len() >= MOST_FILES {
+        return Err(UnreadyFault::Memory);
+    }
     let dead = match dead_of(alloc, state, prepared.keys().0, &stale, first) {
         Ok(dead) => dead,
         Err(UnreadyFault::Memory) => return Err(UnreadyFault::Memory),
@@ -195,7 +195,6 @@ pub fn ready_of<S: Store>(
             return Err(UnreadyFault::Index);
         }
     };
-    let count = prepared.count();
     let index = moves_of(
         alloc,
         prepared.keys().0,

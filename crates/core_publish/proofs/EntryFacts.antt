@@ -67,7 +67,7 @@ entries-are-moves s load files entries p first = ap (map (entry_from first)) p.m
 
 -- ---- four files
 
-abbrev AreBelow : ℕ → List Moved → Type 0
+abbrev pub AreBelow : ℕ → List Moved → Type 0
 AreBelow n es = AllByRecursion (λ e. e.place.segment < n) es
 
 both-below : (n : ℕ) (xs ys : List Moved) → AreBelow n xs → AreBelow n ys → AreBelow n (xs ++ ys)
@@ -78,7 +78,7 @@ in-file-below : (s : Layout) (m n i : ℕ) (rows : List (List Value)) → n < m 
 in-file-below s m n i [] lt = tt
 in-file-below s m n i (row ∷ rows) lt = (lt, in-file-below s m n (i + 1) rows lt)
 
-over-below : (s : Layout) (m n : ℕ) (files : List (List (List Value))) → n + length files ≤ m → AreBelow m (moved_over s n files)
+pub over-below : (s : Layout) (m n : ℕ) (files : List (List (List Value))) → n + length files ≤ m → AreBelow m (moved_over s n files)
 over-below s m n [] h = tt
 over-below s m n (file ∷ files) h = both-below m (moved_in s n 0 file) (moved_over s (n + 1) files) (in-file-below s m n 0 file (omega arith)) (over-below s m (n + 1) files (omega arith))
 
