@@ -9,6 +9,7 @@ use Rattle.std.specs.Cmp.{eq_by_cmp_equiv}
 use Rattle.std.proofs.lemmas.Bool.{ltb-true}
 use Rattle.std.proofs.lemmas.Cmp.{nat_list_cmp_total}
 use Rattle.std.proofs.lemmas.Map.Lookups.{exact_bytes}
+use Rattle.std.proofs.lemmas.List.Elements.{All-cons, All-nil}
 use Rattle.std.proofs.lemmas.Map.Views.{tells_apart}
 use Rattle.dev_traits.specs.Image.{Image}
 use Rattle.dev_traits.specs.View.{View}
@@ -19,6 +20,7 @@ use Rattle.pk_values.specs.OrderFacts.{key_exact}
 use Rattle.pk_values.specs.Schemas.{Layout, fits_key}
 use Rattle.pk_values.specs.declared.cells.Value.{Value}
 use Rattle.pk_model.specs.Books.{rows_at, version}
+use Rattle.pk_model.specs.Lawful.{IsLawful}
 use Rattle.pk_model.specs.Tables.{Rows, key_named, touches}
 use Rattle.pk_model.specs.declared.books.Book.{Book}
 use Rattle.pk_model.specs.declared.calls.Load.{Load}
@@ -47,6 +49,8 @@ use Rattle.partial_loads.specs.declared.folds.Folded.{Folded}
 use Rattle.partial_loads.specs.Folded.{AreFolded, HasCode, folded_keys}
 use Rattle.partial_loads.specs.Lines.{IsShortKey}
 use Rattle.partial_loads.specs.Moves.{IsPlaceOf}
+use Rattle.core_publish.specs.Lines as published
+use Rattle.core_publish.proofs.SettleFacts.{short-keys}
 use Rattle.core_partial.specs.Found.{AreKeysOf, AreStored, AreTold, FoundView, IsFoundOf, codes_of, part_seen}
 
 some_one : {X : Type 0} (x y : X) → Some x ≡ Some y → x ≡ y
@@ -202,3 +206,23 @@ found-of view st reads b h open_ f m schema current rows is are keys kept =
       stands = subst (λ (s : Layout). StandsFor s (live stored (map part_seen f.snapshot.parts)) m) (sym schema) stands;
       places = λ k among. subst (λ (s : Layout). IsPlaceOf s (live stored (map part_seen f.snapshot.parts)) k (place_stored f.located (key_code s k) None)) (sym schema) (places k among);
     }
+
+-- ---- the keys of lines are short
+
+abbrev del : Op → Op
+del op = Delete (key_named op)
+
+short-deletes : (s : Layout) (ops : List Op) → All (λ op. published.IsShortKey s (key_named op)) ops → All (λ op. IsShortKey s (key_named op)) (map del ops)
+short-deletes s [] h = All-nil (λ op. IsShortKey s (key_named op))
+short-deletes s (op ∷ ops) h =
+    All-cons (λ op. IsShortKey s (key_named op)) (del op) (map del ops) (let x = h 0 op (omega arith) in record { fits = x.fits; short = x.short })
+    (short-deletes s ops (λ i d lt. h (suc i) d (omega arith)))
+
+pub short-lines : (s : Layout) (load : Load) (lines : List Op) → IsLawful s load → lines ≡ map del load.ops → All (λ op. IsShortKey s (key_named op)) lines
+short-lines s load lines lawful same = subst (All (λ op. IsShortKey s (key_named op))) (sym same) (short-deletes s load.ops (short-keys s load load.ops refl lawful))
+
+-- ---- one key more
+
+pub stored-more : (codes : CodeMap) (es : List CodeMove) (e : CodeMove) → AreStored codes es → e.1 ≡ get codes e.0 → AreStored codes (es ++ e ∷ [])
+stored-more codes [] e h g = (g, tt)
+stored-more codes (x ∷ es) e h g = (h.0, stored-more codes es e h.1 g)

@@ -1,8 +1,9 @@
 -- What is read at a place by another reader of its file.
-use Rattle.std.proofs.Common.{◌≡◌, refl, ap, sym, subst, ◌∙◌, ℕ, ◌/◌, ◌%◌, ◌<◌, List, Option, Some, slice_get}
-use Rattle.std.specs.FinMap.{get}
+use Rattle.std.proofs.Common.{◌≡◌, refl, ap, sym, subst, ◌∙◌, ℕ, ◌/◌, ◌%◌, ◌<◌, List, Option, Some, slice_get, arith}
+use Rattle.std.specs.Prelude.{Result, Ok, Err, IsErrOf}
 use Rattle.column_page.specs.declared.footers.BlockMark.{BlockMark}
 use Rattle.column_page.specs.declared.footers.Footer.{Footer}
+use Rattle.dev_traits.specs.Reader.{ReaderView}
 use Rattle.dev_traits.specs.declared.faults.Damaged.{Damaged}
 use Rattle.dev_traits.specs.declared.faults.Part.TheVariants as part
 use Rattle.dev_traits.specs.declared.faults.ReadFault.{ReadFault}
@@ -11,7 +12,7 @@ use Rattle.index_level0.specs.declared.place.Place.{Place}
 use Rattle.pk_values.specs.Schemas.{Layout}
 use Rattle.pk_values.specs.declared.cells.Value.{Value}
 use Rattle.segment_read.specs.Blocks.{BlockShown, IsRowOf}
-use Rattle.segment_read.specs.Reads.{IsDamage, OfBlock, OfFile, OnDamage, block_in}
+use Rattle.segment_read.specs.Reads.{IsDamage, OfBlock, OfFile, OnDamage, Reading, block_in}
 use Rattle.segment_read.specs.Rows.{IsNoSegment, IsSegmentOf}
 use Rattle.tablet_state.specs.Moving.{HasAt, HasRowOf, IsCopyOf}
 use Rattle.tablet_state.specs.State.{SegmentView, segment_of}
@@ -58,3 +59,17 @@ row_of_book s copy row found there has read = sym has.at ∙ read has.file has.t
 
 pub no_damage : (s : Layout) (copy : SegmentView) (row : ℕ) (there : Option (List Value)) → HasAt s copy row there → OfFile copy.reader (IsNoSegment s copy.footer) → ⊥
 no_damage s copy row there has none = none has.file has.told has.rows has.is
+
+-- ---- what a new reader counted
+
+pub reading_well : {T : Type 0} (r : Result T ReadFault) (old new : ReaderView) → old.faults ≡ 0 → Reading 1 old new r → (IsErrOf r read.StoreFault → ⊥) → new.faults ≡ 0
+reading_well (Ok x) old new none h good = h.unfailed ∙ none
+reading_well (Err read.StoreFault) old new none h good = absurd (good refl)
+reading_well (Err (read.Damaged d)) old new none h good = h.well (λ e. cc) ∙ none
+reading_well (Err read.Memory) old new none h good = h.well (λ e. cc) ∙ none
+
+pub reading_failed : {T : Type 0} (r : Result T ReadFault) (old new : ReaderView) → old.faults ≡ 0 → Reading 1 old new r → IsErrOf r read.StoreFault → new.faults ≡ 1
+reading_failed (Ok x) old new none h is = absurd (cc is)
+reading_failed (Err read.StoreFault) old new none h is = let counts = h.failed refl in omega (arith, counts, none)
+reading_failed (Err (read.Damaged d)) old new none h is = absurd (cc is)
+reading_failed (Err read.Memory) old new none h is = absurd (cc is)

@@ -27,13 +27,14 @@ use Rattle.partial_loads.specs.Making.{HaveChanges, made_rows}
 use Rattle.partial_loads.specs.Olds.{AreOlds, made_of as rows_made}
 use Rattle.partial_loads.proofs.FoldedFacts.{skip-first}
 use Rattle.partial_loads.proofs.OldFacts.{fit, key-is, rises}
-use Rattle.core_publish.specs.Prepared.{files_of, moves_to}
+use Rattle.tablet_state.specs.Readies.{NewSegment}
+use Rattle.core_publish.specs.Prepared.{AreSealedOf, files_of, moves_to}
 use Rattle.core_publish.specs.Results.{KeyResult, place_at, placed, rows_left}
 use Rattle.core_publish.proofs.PlaceFacts.{entries-are}
 use Rattle.core_publish.proofs.ResultFacts.{AllAbove, AllRise, keys_of}
 use Rattle.core_partial.specs.Again.{AreRemade, Remakes, RemakesKey, RemakesMore, results_of, row_made}
-use Rattle.core_partial.specs.Moving.{IsOldFor, is_moved_key, made_places, moved_keys}
-use Rattle.core_partial.specs.Prepared.{folded_of}
+use Rattle.core_partial.specs.Moving.{IsAgain, IsOldFor, is_moved_key, made_places, moved_keys}
+use Rattle.core_partial.specs.Prepared.{AgainView, folded_of}
 use Rattle.core_partial.specs.Results.{place_for}
 use Rattle.core_partial.specs.declared.again.Remade.{Remade}
 use Rattle.core_partial.specs.declared.keys.PreparedKey.{PreparedKey}
@@ -213,3 +214,14 @@ long-front test (x ∷ xs) (suc n) = go (test x) (long-front test xs n)
     go : (t : Truth) → length (filter test (take n xs)) ≤ length (filter test xs) → length (cond t (x ∷ filter test (take n xs)) (filter test (take n xs))) ≤ length (cond t (x ∷ filter test xs) (filter test xs))
     go true le = omega arith
     go false le = le
+
+pub is-again : (s : Layout) (load : Load) → schema_fault s.columns s.keys ≡ None → IsLawful s load → (ks : List PreparedKey) → HaveChanges load (map folded_of ks) → AreCoded s ks → T (rise_strictly (keys_in ks))
+    → (remade : Remade) → AreRemade s load.given ks remade → (again : AgainView) (files : List NewSegment) → again.moves ≡ remade.results.moves.items → again.stale ≡ remade.stale.items
+    → again.rows ≡ remade.results.rows.items → again.files ≡ files → AreSealedOf s (files_of remade.results.rows.items) files → IsAgain s ks again
+is-again s load clean lawful ks have coded rise remade are again files moves stale rows kept sealed = record {
+  files = record {
+    sealed = subst (λ (rs : List Row). AreSealedOf s (files_of rs) again.files) (sym rows) (subst (AreSealedOf s (files_of remade.results.rows.items)) (sym kept) sealed);
+    moves_are = moves ∙ moves-are s load clean lawful ks have coded rise remade are ∙ ap (λ (rs : List Row). code_moves (key_code s) (moves_to s 0 (files_of rs) (keys_in ks))) (sym rows);
+  };
+  stale_are = stale ∙ are.stale;
+}

@@ -163,6 +163,8 @@ pub fn again_of<S: Store>(
     ensures has { (b : Book) → Has S.view state.old b → Has S.view state.new b }
 {
     let schema = state.schema().copy(alloc)?;
+    // No schema has a fault.
+    let _columns = schema.columns();
     let (keys, given) = prepared.keys();
     let remade = remake(alloc, state, &schema, given, prepared.version(), keys)?;
     match write_again(alloc, state, &remade.results.rows) {
