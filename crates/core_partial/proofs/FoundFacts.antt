@@ -106,21 +106,19 @@ stored-at : (s : Layout) (codes : CodeMap) (located : List CodeMove) (keys : Lis
     → codes_of located ≡ map (key_code s) keys → is_among keys k ≡ true → place_stored located (key_code s k) old ≡ get codes (key_code s k)
 stored-at s codes located [] k old h e among = never among
 stored-at s codes [] (j ∷ keys) k old h e among = none-left (key_code s j) (map (key_code s) keys) e
-stored-at s codes (x ∷ es) (j ∷ keys) k old h e among = go (eq_by_cmp key_cmp k j) refl among
+stored-at s codes (x ∷ es) (j ∷ keys) k old h e among = go (eq_by_cmp key_cmp k j) refl among (λ g. stored-at s codes es keys k (cond (eq_by_cmp code_cmp (key_code s k) x.0) x.1 old) h.1 (tail-same x.0 (key_code s j) (codes_of es) (map (key_code s) keys) e) g)
   where
     code : x.0 ≡ key_code s j
     code = head-same x.0 (key_code s j) (codes_of es) (map (key_code s) keys) e
 
-    rest : codes_of es ≡ map (key_code s) keys
-    rest = tail-same x.0 (key_code s j) (codes_of es) (map (key_code s) keys) e
-
-    go : (t : Truth) → eq_by_cmp key_cmp k j ≡ t → (t || is_among keys k) ≡ true → place_stored es (key_code s k) (cond (eq_by_cmp code_cmp (key_code s k) x.0) x.1 old) ≡ get codes (key_code s k)
-    go true f g =
+    go : (t : Truth) → eq_by_cmp key_cmp k j ≡ t → (t || is_among keys k) ≡ true → (is_among keys k ≡ true → place_stored es (key_code s k) (cond (eq_by_cmp code_cmp (key_code s k) x.0) x.1 old) ≡ get codes (key_code s k))
+        → place_stored es (key_code s k) (cond (eq_by_cmp code_cmp (key_code s k) x.0) x.1 old) ≡ get codes (key_code s k)
+    go true f g more =
         let same : x.0 ≡ key_code s k = code ∙ ap (key_code s) (sym (tells_apart key_exact k j f)) in
         let itself : eq_by_cmp code_cmp (key_code s k) x.0 ≡ true = ap (eq_by_cmp code_cmp (key_code s k)) same ∙ (eq_by_cmp_equiv nat_list_cmp_total).refl (key_code s k) in
         stored-keeps codes es (key_code s k) (cond (eq_by_cmp code_cmp (key_code s k) x.0) x.1 old) h.1
         (ap (λ (t : Truth). cond t x.1 old) itself ∙ h.0 ∙ ap (get codes) same)
-    go false f g = stored-at s codes es keys k (cond (eq_by_cmp code_cmp (key_code s k) x.0) x.1 old) h.1 rest g
+    go false f g more = more g
 
 -- ---- the parts of a version
 
@@ -153,11 +151,11 @@ are-told s stored image segs (f ∷ fs) (p ∷ ps) read stands h = (is-piece s s
 
 fits-among : (s : Layout) (keys : List (List Value)) (k : List Value) → AllByRecursion (IsShortKey s) keys → is_among keys k ≡ true → fits_key s k ≡ true
 fits-among s [] k h e = never e
-fits-among s (j ∷ keys) k h e = go (eq_by_cmp key_cmp k j) refl e
+fits-among s (j ∷ keys) k h e = go (eq_by_cmp key_cmp k j) refl e (fits-among s keys k h.1)
   where
-    go : (t : Truth) → eq_by_cmp key_cmp k j ≡ t → (t || is_among keys k) ≡ true → fits_key s k ≡ true
-    go true f g = subst (λ (q : List Value). fits_key s q ≡ true) (sym (tells_apart key_exact k j f)) h.0.fits
-    go false f g = fits-among s keys k h.1 g
+    go : (t : Truth) → eq_by_cmp key_cmp k j ≡ t → (t || is_among keys k) ≡ true → (is_among keys k ≡ true → fits_key s k ≡ true) → fits_key s k ≡ true
+    go true f g more = subst (λ (q : List Value). fits_key s q ≡ true) (sym (tells_apart key_exact k j f)) h.0.fits
+    go false f g more = more g
 
 lt-not : (a b : ℕ) → b ≤ a → nat_lt a b ≡ false
 lt-not a b le = go (nat_lt a b) refl

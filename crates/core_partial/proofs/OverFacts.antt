@@ -51,14 +51,14 @@ use Rattle.core_partial.proofs.SubFacts.{keys_in, rises-filtered}
 
 count-any : (f : Place → Truth) (xs : List Place) → 1 ≤ count_by f xs → list_any f xs ≡ true
 count-any f [] h = absurd (omega arith)
-count-any f (x ∷ xs) h = go (f x) refl
+count-any f (x ∷ xs) h = go (f x) refl (count-any f xs)
   where
-    go : (t : Truth) → f x ≡ t → (f x || list_any f xs) ≡ true
-    go true e = ap (λ (t : Truth). t || list_any f xs) e
-    go false e =
+    go : (t : Truth) → f x ≡ t → (1 ≤ count_by f xs → list_any f xs ≡ true) → (f x || list_any f xs) ≡ true
+    go true e more = ap (λ (t : Truth). t || list_any f xs) e
+    go false e more =
         let next = sum_by-cons (λ (q : Place). cond (f q) 1 0) x xs in
         let none : cond (f x) 1 0 ≡ 0 = ap (λ (t : Truth). cond t 1 0) e in
-        ap (λ (t : Truth). t || list_any f xs) e ∙ count-any f xs (omega (arith, next, none, h))
+        ap (λ (t : Truth). t || list_any f xs) e ∙ more (omega (arith, next, none, h))
 
 not-both : (p : Place) (xs ys : List Place) → count_by (same_place p) xs ≤ 1 → count_by (same_place p) ys ≤ 1 → (stands_in xs p ≡ true → stands_in ys p ≡ true → ⊥)
     → 2 ≤ count_by (same_place p) (xs ++ ys) → ⊥

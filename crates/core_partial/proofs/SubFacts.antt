@@ -80,11 +80,12 @@ pub record IsLeftOut (P : PreparedKey → Type 0) (test : PreparedKey → Truth)
 pub left-out : (P : PreparedKey → Type 0) (test : PreparedKey → Truth) (ks : List PreparedKey) (k : List Value) → AllByRecursion P ks
     → is_among (keys_in ks) k ≡ true → is_among (keys_in (filter test ks)) k ≡ false → IsLeftOut P test k
 left-out P test [] k all there gone = never there
-left-out P test (x ∷ ks) k all there gone = go (test x) (eq_by_cmp key_cmp k x.key) refl refl there gone
+left-out P test (x ∷ ks) k all there gone = go (test x) (eq_by_cmp key_cmp k x.key) refl refl there gone (λ a b. left-out P test ks k all.1 a b)
   where
     go : (t b : Truth) → test x ≡ t → eq_by_cmp key_cmp k x.key ≡ b → (b || is_among (keys_in ks) k) ≡ true
-        → is_among (keys_in (cond t (x ∷ filter test ks) (filter test ks))) k ≡ false → IsLeftOut P test k
-    go true true e f there gone = not_so (sym (ap (λ b. b || is_among (keys_in (filter test ks)) k) f) ∙ gone)
-    go false true e f there gone = record { at = x; has = all.0; key = sym (tells_apart key_exact k x.key f); fails = e }
-    go true false e f there gone = left-out P test ks k all.1 there (sym (ap (λ b. b || is_among (keys_in (filter test ks)) k) f) ∙ gone)
-    go false false e f there gone = left-out P test ks k all.1 there gone
+        → is_among (keys_in (cond t (x ∷ filter test ks) (filter test ks))) k ≡ false
+        → (is_among (keys_in ks) k ≡ true → is_among (keys_in (filter test ks)) k ≡ false → IsLeftOut P test k) → IsLeftOut P test k
+    go true true e f there gone more = not_so (sym (ap (λ b. b || is_among (keys_in (filter test ks)) k) f) ∙ gone)
+    go false true e f there gone more = record { at = x; has = all.0; key = sym (tells_apart key_exact k x.key f); fails = e }
+    go true false e f there gone more = more there (sym (ap (λ b. b || is_among (keys_in (filter test ks)) k) f) ∙ gone)
+    go false false e f there gone more = more there gone

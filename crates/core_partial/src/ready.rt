@@ -37,7 +37,7 @@ impl From<AllocError> for UnreadyFault {
     }
 }
 
-/// No load has so many files.
+/// No load has so many files: 262,144 lines make at most four. The test is for the proof alone.
 const MOST_FILES: usize = 1 << 31;
 
 // Whether the place is one of an earlier file, or of an earlier row of the same file.

@@ -109,21 +109,21 @@ kept_by c v p e = go (nat_le c.floor v) refl e
 
 found_file : (P : ListedFile → Type 0) (fs : List ListedFile) (n : ℕ) (f : ListedFile) → AllByRecursion P fs → file_numbered n fs ≡ Some f → (f.file ≡ n) × P f
 found_file P [] n f all is = absurd (none_some f is)
-found_file P (x ∷ fs) n f all is = go (x.file == n) refl is
+found_file P (x ∷ fs) n f all is = go (x.file == n) refl is (λ g. found_file P fs n f all.1 g)
   where
-    go : (t : Bool) → (x.file == n) ≡ t → cond t (Some x) (file_numbered n fs) ≡ Some f → (f.file ≡ n) × P f
-    go true e g = let same = some_one x f g in (ap (λ (y : ListedFile). y.file) (sym same) ∙ eqb-true x.file n e, subst P same all.0)
-    go false e g = found_file P fs n f all.1 g
+    go : (t : Bool) → (x.file == n) ≡ t → cond t (Some x) (file_numbered n fs) ≡ Some f → (file_numbered n fs ≡ Some f → (f.file ≡ n) × P f) → (f.file ≡ n) × P f
+    go true e g more = let same = some_one x f g in (ap (λ (y : ListedFile). y.file) (sym same) ∙ eqb-true x.file n e, subst P same all.0)
+    go false e g more = more g
 
 pub keeps_there : (c : Contents) (segs : List SegmentView) → HasOwn c segs → (v : ℕ) (p : Place) → keeps_live c v p ≡ true → HasRowOf segs p
 keeps_there c segs own v p e =
     let k = kept_by c v p e in
-    go (file_numbered p.segment (files_of k.rowsets)) refl k.lives (version_held c segs own (v - c.floor) k.rowsets k.at)
+    go (files_of k.rowsets) (file_numbered p.segment (files_of k.rowsets)) refl k.lives (version_held c segs own (v - c.floor) k.rowsets k.at)
   where
-    go : {fs : List ListedFile} (o : Option ListedFile) → file_numbered p.segment fs ≡ o → row_lives o p.row ≡ true → AllByRecursion (IsHeldFile c.schema segs) fs → HasRowOf segs p
-    go None at f all = never _ f
-    go (Some x) at f all =
-        let found = found_file (IsHeldFile c.schema segs) _ p.segment x all at in
+    go : (fs : List ListedFile) (o : Option ListedFile) → file_numbered p.segment fs ≡ o → row_lives o p.row ≡ true → AllByRecursion (IsHeldFile c.schema segs) fs → HasRowOf segs p
+    go fs None at f all = never _ f
+    go fs (Some x) at f all =
+        let found = found_file (IsHeldFile c.schema segs) fs p.segment x all at in
         let lt = ltb-true p.row x.rows (and_parts (nat_lt p.row x.rows) (not (list_any (λ d. d == p.row) x.dead)) f).0 in
         let rows = found.1.rows in
         record { segment = found.1.segment; there = subst (λ (n : ℕ). segment_of segs n ≡ Some found.1.segment) found.0 found.1.there; within = omega arith }
@@ -132,29 +132,29 @@ keeps_there c segs own v p e =
 
 live_row : (stored : Files) (ps : List Part) (p : Place) (row : List Value) → live stored ps p ≡ Some row → slice_get (stored p.segment) p.row ≡ Some row
 live_row stored [] p row is = absurd (none_some row is)
-live_row stored (x ∷ ps) p row is = go (x.file == p.segment) (is_dead x p.row) refl is
+live_row stored (x ∷ ps) p row is = go (x.file == p.segment) (is_dead x p.row) refl is (live_row stored ps p row)
   where
-    go : (a b : Bool) → (x.file == p.segment) ≡ a → cond a (cond b None (slice_get (stored x.file) p.row)) (live stored ps p) ≡ Some row → slice_get (stored p.segment) p.row ≡ Some row
-    go true true e f = absurd (none_some row f)
-    go true false e f = ap (λ (n : ℕ). slice_get (stored n) p.row) (sym (eqb-true x.file p.segment e)) ∙ f
-    go false b e f = live_row stored ps p row f
+    go : (a b : Bool) → (x.file == p.segment) ≡ a → cond a (cond b None (slice_get (stored x.file) p.row)) (live stored ps p) ≡ Some row → (live stored ps p ≡ Some row → slice_get (stored p.segment) p.row ≡ Some row) → slice_get (stored p.segment) p.row ≡ Some row
+    go true true e f more = absurd (none_some row f)
+    go true false e f more = ap (λ (n : ℕ). slice_get (stored n) p.row) (sym (eqb-true x.file p.segment e)) ∙ f
+    go false b e f more = more f
 
 lives_then : (stored : Files) (fs : List ListedFile) (p : Place) (row : List Value) → row_lives (file_numbered p.segment fs) p.row ≡ true → slice_get (stored p.segment) p.row ≡ Some row
     → live stored (parts fs) p ≡ Some row
 lives_then stored [] p row h at = never _ h
-lives_then stored (f ∷ fs) p row h at = go (f.file == p.segment) refl h
+lives_then stored (f ∷ fs) p row h at = go (f.file == p.segment) refl h (λ g. lives_then stored fs p row g at)
   where
-    go : (a : Bool) → (f.file == p.segment) ≡ a → row_lives (cond a (Some f) (file_numbered p.segment fs)) p.row ≡ true
+    go : (a : Bool) → (f.file == p.segment) ≡ a → row_lives (cond a (Some f) (file_numbered p.segment fs)) p.row ≡ true → (row_lives (file_numbered p.segment fs) p.row ≡ true → live stored (parts fs) p ≡ Some row)
         → cond a (cond (is_dead (part_of f) p.row) None (slice_get (stored f.file) p.row)) (live stored (parts fs) p) ≡ Some row
-    go true e g =
+    go true e g more =
         let alive = not_true _ (and_parts (nat_lt p.row f.rows) (not (list_any (λ d. d == p.row) f.dead)) g).1 in
         ap (λ (b : Bool). cond b None (slice_get (stored f.file) p.row)) alive ∙ ap (λ (n : ℕ). slice_get (stored n) p.row) (eqb-true f.file p.segment e) ∙ at
-    go false e g = lives_then stored fs p row g at
+    go false e g more = more g
 
 rows_lives : (s : Layout) (stored : Files) (segs : List SegmentView) (fs : List ListedFile) (p : Place) (row : List Value) → AllByRecursion (IsHeldFile s segs) fs
     → AllByRecursion (λ (f : ListedFile). IsReadAs s stored segs (told_file f)) fs → live stored (parts fs) p ≡ Some row → row_lives (file_numbered p.segment fs) p.row ≡ true
 rows_lives s stored segs [] p row all read is = absurd (none_some row is)
-rows_lives s stored segs (f ∷ fs) p row all read is = go (f.file == p.segment) (is_dead (part_of f) p.row) refl is
+rows_lives s stored segs (f ∷ fs) p row all read is = go (f.file == p.segment) (is_dead (part_of f) p.row) refl is (rows_lives s stored segs fs p row all.1 read.1)
   where
     long : length (stored f.file) ≡ f.rows
     long =
@@ -162,13 +162,13 @@ rows_lives s stored segs (f ∷ fs) p row all read is = go (f.file == p.segment)
         ap (λ (x : Footer). x.rows) (sym read.0.footer) ∙ ap (λ (g : SegmentView). g.footer.rows) same ∙ all.0.rows
 
     go : (a b : Bool) → is_dead (part_of f) p.row ≡ b → cond a (cond b None (slice_get (stored f.file) p.row)) (live stored (parts fs) p) ≡ Some row
-        → row_lives (cond a (Some f) (file_numbered p.segment fs)) p.row ≡ true
-    go true true e g = absurd (none_some row g)
-    go true false e g =
+        → (live stored (parts fs) p ≡ Some row → row_lives (file_numbered p.segment fs) p.row ≡ true) → row_lives (cond a (Some f) (file_numbered p.segment fs)) p.row ≡ true
+    go true true e g more = absurd (none_some row g)
+    go true false e g more =
         let lt : p.row < length (stored f.file) = slice_get_within (stored f.file) p.row row g in
         let many = long in
         and_from (nat_lt p.row f.rows) (not (list_any (λ d. d == p.row) f.dead)) (lt-ltb p.row f.rows (omega arith)) (ap not e)
-    go false b e g = rows_lives s stored segs fs p row all.1 read.1 g
+    go false b e g more = more g
 
 pub places_live : {S : Type 0} (view : S → View) (st : Shown S) → HasOwn st.contents st.segments → PlacesAreLive view st
 places_live view st own b h open_ k p at =
@@ -231,8 +231,8 @@ module _ (c : Contents) (stored : Files) (kept : List Entry) (b : Book) (h : Hol
       let was = both.0 m.0 m.1 in
       let same : was.0 ≡ map parts x.rowsets = some_one was.0 (map parts x.rowsets) (sym was.1 ∙ in_held) in
       let files : parts_of was.0 ≡ parts (files_of x.rowsets) = ap parts_of same ∙ parts_are x.rowsets in
-      let then : live stored (parts_of was.0) p ≡ Some row = ap (λ (ps : List Part). live stored ps p) files ∙ lives_then stored (files_of x.rowsets) p row x.lives here in
-      (m.0, m.1, now ∙ sym ((was.2.same k row).1 (p, then, has.2)))
+      let still : live stored (parts_of was.0) p ≡ Some row = ap (λ (ps : List Part). live stored ps p) files ∙ lives_then stored (files_of x.rowsets) p row x.lives here in
+      (m.0, m.1, now ∙ sym ((was.2.same k row).1 (p, still, has.2)))
 
 pub keys_are_told : KeysAreTold
 keys_are_told c stored kept b h k = record { absent = absent c stored kept b h k; stood = stood c stored kept b h k }
@@ -265,11 +265,11 @@ copy_known s gs file copy all is =
 -- a file that has a live row
 live_file : (P : ListedFile → Type 0) (stored : Files) (fs : List ListedFile) (p : Place) (row : List Value) → AllByRecursion P fs → live stored (parts fs) p ≡ Some row → (f : ListedFile) × (f.file ≡ p.segment) × P f
 live_file P stored [] p row all is = absurd (none_some row is)
-live_file P stored (f ∷ fs) p row all is = go (f.file == p.segment) refl is
+live_file P stored (f ∷ fs) p row all is = go (f.file == p.segment) refl is (λ g. live_file P stored fs p row all.1 g)
   where
-    go : (a : Bool) → (f.file == p.segment) ≡ a → cond a (cond (is_dead (part_of f) p.row) None (slice_get (stored f.file) p.row)) (live stored (parts fs) p) ≡ Some row → (f : ListedFile) × (f.file ≡ p.segment) × P f
-    go true e g = (f, eqb-true f.file p.segment e, all.0)
-    go false e g = live_file P stored fs p row all.1 g
+    go : (a : Bool) → (f.file == p.segment) ≡ a → cond a (cond (is_dead (part_of f) p.row) None (slice_get (stored f.file) p.row)) (live stored (parts fs) p) ≡ Some row → (live stored (parts fs) p ≡ Some row → (x : ListedFile) × (x.file ≡ p.segment) × P x) → (x : ListedFile) × (x.file ≡ p.segment) × P x
+    go true e g more = (f, eqb-true f.file p.segment e, all.0)
+    go false e g more = more g
 
 record IsRead (s : Layout) (stored : Files) (segs : List SegmentView) (image : Image) (f : ListedFile) : Type 0 where
   read : IsReadAs s stored segs (told_file f)

@@ -11,7 +11,7 @@ use Rattle.tablet_state.proofs.MovingFacts.{copy_known, copy_rows}
 use Rattle.tablet_state.proofs.state.State.segment.Goals as goal
 
 pub copy_of-requires-clause-there : goal.copy_of-requires-clause-there
-copy_of-requires-clause-there g c = subst (λ (x : Shown g.row.S.Denot). IsSome (segment_of x.segments c.args.file)) (sym c.self.view_is) c.requires
+copy_of-requires-clause-there g c = subst (λ (x : Shown g.row.S.Denot). IsSome (segment_of x.segments c.args.file)) (sym c.self.view_is) c.requires.there
 
 pub invariant_of-self : goal.invariant_of-self
 invariant_of-self g c =
