@@ -1,4 +1,4 @@
-ghost use Rattle.std.specs.Prelude.{◌≡◌, ◌++◌, map, false, [], IfOk, OnErr, OnOk, length, take};
+ghost use Rattle.std.specs.Prelude.{◌≡◌, ◌++◌, map, false, true, [], IfOk, OnErr, OnOk, length, take};
 ghost use Rattle.core_partial.specs.Prepared.{IsPreparedPartial, nothing_again};
 ghost use Rattle.core_partial.specs.Publishing.{emptied};
 
