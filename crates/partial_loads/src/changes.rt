@@ -2,7 +2,7 @@ ghost use Rattle.std.specs.Prelude.{◌≡◌, [], IfOk};
 ghost use Rattle.pk_model.specs.Tables.{key_named, with_cells};
 ghost use Rattle.std.specs.Ordering.{is_lt};
 ghost use Rattle.pk_values.specs.Order.{value_cmp};
-ghost use Rattle.partial_loads.specs.Folds.{apply, carried, change_of, composed, is_held, overlaid, stronger};
+ghost use Rattle.partial_loads.specs.Folds.{apply, carried, change_of, composed, is_held, overlaid, overlays, stronger};
 ghost use Rattle.partial_loads.specs.Conditions.{holds_back};
 
 use crate::rows::{new_row, write_cells};
@@ -76,6 +76,16 @@ impl KeyChange {
                     Ok(Some(with_copies(alloc, given, cells, row)?))
                 }
             },
+        }
+    }
+
+    /// Whether the change asks for the old row: what it makes of another one is the same where it doesn't.
+    pub fn overlays(&self) -> bool
+        ensures { result ≡ overlays self.now }
+    {
+        match self {
+            KeyChange::Keep | KeyChange::Overlay(_) => true,
+            KeyChange::Remove | KeyChange::Renew(_) => false,
         }
     }
 

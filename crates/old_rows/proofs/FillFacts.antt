@@ -1,0 +1,83 @@
+-- Old rows are filled in, one after the other.
+use Rattle.std.proofs.Common.{◌≡◌, ◌≢◌, refl, ap, sym, subst, ◌∙◌, ℕ, zero, suc, ◌+◌, ◌<◌, ◌≤◌, List, [], ◌∷◌, ◌++◌, length, take, Option, Some, None, Bool as Truth, true, false, ◌==◌, slice_get, slice_set, get_or, arith, append_assoc, length-set}
+use Rattle.std.specs.List.{AllByRecursion}
+use Rattle.std.proofs.lemmas.Bool.{eqb-false, eqb-true}
+use Rattle.std.proofs.lemmas.List.{append-nil, take_more}
+use Rattle.pk_values.specs.Schemas.{fits_row, key_of}
+use Rattle.std.specs.Prelude.{IsTrue}
+use Rattle.pk_values.specs.declared.cells.Value.{Value}
+use Rattle.snapshot_scan.specs.Snapshots.{SnapshotView}
+use Rattle.partial_loads.specs.declared.folds.Folded.{Folded}
+use Rattle.old_rows.specs.Reading.{AreFilled, IsOldRow, Olds, SameButCounts, live_at}
+use Rattle.old_rows.specs.declared.wanted.Wanted.{Wanted}
+use Rattle.old_rows.proofs.StillFacts.{live-same, tells-same}
+
+some_same : {X : Type 0} (x y : X) → Some x ≡ Some y → x ≡ y
+some_same x y e = cc
+
+abbrev Old : Type 0
+Old = Option (List Value)
+
+set-here : (xs : Olds) (j : ℕ) (q : Old) → j < length xs → slice_get (slice_set xs j q) j ≡ Some q
+set-here [] j q lt = absurd (omega arith)
+set-here (x ∷ xs) zero q lt = refl
+set-here (x ∷ xs) (suc j) q lt = set-here xs j q (omega arith)
+
+set-other : (xs : Olds) (j k : ℕ) (q : Old) → j ≢ k → slice_get (slice_set xs j q) k ≡ slice_get xs k
+set-other [] j k q n = refl
+set-other (x ∷ xs) zero zero q n = absurd (n refl)
+set-other (x ∷ xs) zero (suc k) q n = refl
+set-other (x ∷ xs) (suc j) zero q n = refl
+set-other (x ∷ xs) (suc j) (suc k) q n = set-other xs j k q (λ e. n (ap suc e))
+
+all-more : (P : Wanted → Type 0) (xs : List Wanted) (x : Wanted) → AllByRecursion P xs → P x → AllByRecursion P (xs ++ x ∷ [])
+all-more P [] x h p = (p, tt)
+all-more P (y ∷ ys) x h p = (h.0, all-more P ys x h.1 p)
+
+all-so : (P Q : Wanted → Type 0) → ((w : Wanted) → P w → Q w) → (xs : List Wanted) → AllByRecursion P xs → AllByRecursion Q xs
+all-so P Q f [] h = tt
+all-so P Q f (x ∷ xs) h = (f x h.0, all-so P Q f xs h.1)
+
+abbrev IsThere : Olds → Wanted → Type 0
+IsThere olds w = (row : List Value) × (slice_get olds w.key ≡ Some (Some row))
+
+pub filled-more : (v : SnapshotView) (keys : List Folded) (done : List Wanted) (olds : Olds) (w : Wanted) (f : Folded) (row : List Value) → AreFilled v keys done olds
+    → w.key < length keys → slice_get keys w.key ≡ Some f → IsOldRow v f.key row → AreFilled v keys (done ++ w ∷ []) (slice_set olds w.key (Some row))
+filled-more v keys done olds w f row filled lt there old = record {
+  long = length-set olds w.key (Some row) ∙ filled.long;
+  good = λ i g r has got. go i g r has got (w.key == i) refl;
+  full = all-more (IsThere (slice_set olds w.key (Some row))) done w (all-so (IsThere olds) (IsThere (slice_set olds w.key (Some row))) keep done filled.full) (row, set-here olds w.key (Some row) short);
+}
+  where
+    short : w.key < length olds
+    short = omega (arith, lt, filled.long)
+
+    keep : (u : Wanted) → IsThere olds u → IsThere (slice_set olds w.key (Some row)) u
+    keep u h = by (w.key == u.key) refl
+      where
+        by : (t : Truth) → (w.key == u.key) ≡ t → IsThere (slice_set olds w.key (Some row)) u
+        by true e = (row, ap (slice_get (slice_set olds w.key (Some row))) (sym (eqb-true w.key u.key e)) ∙ set-here olds w.key (Some row) short)
+        by false e = (h.0, set-other olds w.key u.key (Some row) (eqb-false w.key u.key e) ∙ h.1)
+
+    go : (i : ℕ) (g : Folded) (r : List Value) → slice_get keys i ≡ Some g → slice_get (slice_set olds w.key (Some row)) i ≡ Some (Some r) → (t : Truth) → (w.key == i) ≡ t → IsOldRow v g.key r
+    go i g r has got true e =
+        let here : w.key ≡ i = eqb-true w.key i e in
+        let key : f ≡ g = some_same f g (sym there ∙ ap (slice_get keys) here ∙ has) in
+        let same : row ≡ r = some_same row r (some_same (Some row) (Some r) (sym (set-here olds w.key (Some row) short) ∙ ap (slice_get (slice_set olds w.key (Some row))) here ∙ got)) in
+        subst (λ k. IsOldRow v k r) (ap (λ (x : Folded). x.key) key) (subst (IsOldRow v f.key) same old)
+    go i g r has got false e = filled.good i g r has (sym (set-other olds w.key i (Some row) (eqb-false w.key i e)) ∙ got)
+
+-- an old row of a snapshot is one of the same snapshot, whatever was counted
+old-same : (v w : SnapshotView) (key row : List Value) → SameButCounts v w → IsOldRow w key row → IsOldRow v key row
+old-same v w key row same old = record {
+  fits = subst (λ s. IsTrue (fits_row s row)) same.schema old.fits;
+  key_is = ap (λ s. key_of s row) (sym same.schema) ∙ old.key_is;
+  lives = λ stored tells. let found = old.lives stored (tells-same v w stored same tells) in (found.0, ap (λ l. l found.0) (sym (live-same stored v w same)) ∙ found.1);
+}
+
+pub filled-same : (v w : SnapshotView) (keys : List Folded) (done : List Wanted) (olds : Olds) → SameButCounts v w → AreFilled w keys done olds → AreFilled v keys done olds
+filled-same v w keys done olds same filled = record {
+  long = filled.long;
+  good = λ i f row has got. old-same v w f.key row same (filled.good i f row has got);
+  full = filled.full;
+}
