@@ -1,18 +1,20 @@
 -- What a partial load becomes before its turn: the whole rows that it leaves, made over the rows of an earlier version.
-use Rattle.std.specs.Prelude.{◌≡◌, ℕ, ◌≤◌, List, [], ◌∷◌, ◌++◌, map, Option, None, Bool as Truth, option_to_list}
+use Rattle.std.specs.Prelude.{◌≡◌, ℕ, List, [], map, Option, None, Bool as Truth, Some}
 use Rattle.std.specs.FinMap.{get}
 use Rattle.std.specs.List.{AllByRecursion}
 use Rattle.key_code.specs.KeyCode.{key_code}
 use Rattle.pk_values.specs.Schemas.{Layout}
 use Rattle.pk_values.specs.declared.cells.Value.{Value}
 use Rattle.pk_model.specs.Laws.{KeysStandFirst}
-use Rattle.pk_model.specs.Lawful.{IsLawful, most_lines}
+use Rattle.pk_model.specs.Lawful.{IsLawful}
+use Rattle.pk_model.specs.declared.books.Book.{Book}
+use Rattle.pk_model.specs.Books.{rows_at}
 use Rattle.pk_model.specs.Tables.{Rows}
 use Rattle.pk_model.specs.declared.calls.Load.{Load}
 use Rattle.index_level0.specs.declared.place.Place.{Place}
 use Rattle.rowsets.specs.Indexing.{CodeMove, code_moves}
 use Rattle.tablet_state.specs.Readies.{NewSegment}
-use Rattle.partial_loads.specs.Folded.{AreFolded}
+use Rattle.partial_loads.specs.Folded.{AreFolded, folded_keys}
 use Rattle.partial_loads.specs.Making.{made_rows}
 use Rattle.partial_loads.specs.declared.folds.Folded.{Folded}
 use Rattle.core_publish.specs.Prepared.{AreSealedOf, files_of, moves_to}
@@ -46,15 +48,12 @@ abbrev pub folded_of : PreparedKey → Folded
 folded_of k = record { code = k.code; key = k.key; change = k.change }
 
 -- a key's code with the place at which it was located
-abbrev pub located_of : PreparedKey → CodeMove
-located_of k = (k.code, k.was)
+abbrev pub located_move : PreparedKey → CodeMove
+located_move k = (k.code, k.was)
 
 -- a key's code with the place of its row
-abbrev pub made_of : PreparedKey → CodeMove
-made_of k = (k.code, k.made)
-
-abbrev pub key_of_prepared : PreparedKey → List Value
-key_of_prepared k = k.key
+abbrev pub made_move : PreparedKey → CodeMove
+made_move k = (k.code, k.made)
 
 -- The files hold these rows, and the moves tell where the rows of the keys stand in them, numbered from 0.
 pub record AreFilesOf (s : Layout) (keys : List (List Value)) (rows : List (List Value)) (files : List NewSegment)
@@ -72,12 +71,16 @@ pub record IsMadeOver (s : Layout) (load : Load) (keys : List PreparedKey) (rows
 abbrev pub WasMadeOver : PreparedPartialView → Rows → Type 0
 WasMadeOver p m = IsMadeOver p.schema p.load p.keys p.rows m
 
+-- where a book keeps the version at which it was located, it was made over the rows that the version has
+abbrev pub WasLocatedIn : Book → PreparedPartialView → Type 0
+WasLocatedIn b p = (m : Rows) → rows_at b p.version ≡ Some m → WasMadeOver p m
+
 -- a prepared load that isn't used up: its keys are those that its lines name, with what these come to, and its rows were
 -- made over some map
 pub record IsPreparedPartial (p : PreparedPartialView) : Type 0 where
   pub lawful : IsLawful p.schema p.load
   pub folds : AreFolded p.schema p.load.given None p.load.ops (map folded_of p.keys)
-  pub files : AreFilesOf p.schema (map key_of_prepared p.keys) p.rows p.files (map made_of p.keys)
+  pub files : AreFilesOf p.schema (folded_keys (map folded_of p.keys)) p.rows p.files (map made_move p.keys)
   pub made : Rows
   pub first : KeysStandFirst p.schema made
   pub over : WasMadeOver p made

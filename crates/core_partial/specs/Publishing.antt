@@ -17,19 +17,19 @@ use Rattle.tablet_state.specs.State.{SegmentView}
 use Rattle.core_publish.specs.Publication.{entry_from}
 use Rattle.core_publish.specs.Publishing.{StandsTwice, index_damage, stored_places}
 use Rattle.core_partial.specs.Moving.{IsAgain, IsReadDamage, moved_keys}
-use Rattle.core_partial.specs.Prepared.{AgainView, PreparedPartialView, made_of, nothing_again}
+use Rattle.core_partial.specs.Prepared.{AgainView, PreparedPartialView, made_move, nothing_again}
 
 abbrev pub place_from : ℕ → Place → Place
 place_from first p = record { segment = p.segment + first; row = p.row }
 
 -- the rows that die: those at which the index has the keys now, and the superseded ones of the new files
 abbrev pub dead_places : Contents → PreparedPartialView → AgainView → List Place
-dead_places c p again = stored_places c.codes (map made_of p.keys) ++ map (place_from c.next_file) again.stale
+dead_places c p again = stored_places c.codes (map made_move p.keys) ++ map (place_from c.next_file) again.stale
 
 -- where the keys stand then: at the rows made before the turn, but those that moved at the rows made again, whose files
 -- are numbered behind the others
 abbrev pub moves_after : ℕ → PreparedPartialView → AgainView → List CodeMove
-moves_after first p again = map (entry_from first) (map made_of p.keys) ++ map (entry_from (first + length p.files)) again.moves
+moves_after first p again = map (entry_from first) (map made_move p.keys) ++ map (entry_from (first + length p.files)) again.moves
 
 -- what was taken out of a prepared load for a change of what is held
 pub record IsTakenOf (c : Contents) (p : PreparedPartialView) (again : AgainView) (made : List NewSegment)

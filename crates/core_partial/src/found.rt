@@ -1,4 +1,4 @@
-ghost use Rattle.std.specs.Prelude.{◌≡◌};
+ghost use Rattle.std.specs.Prelude.{◌≡◌, ◌-◌, ◌^◌, min};
 ghost use Rattle.dev_traits.specs.Causes.{Counts};
 ghost use Rattle.dev_traits.specs.View.{Calm};
 ghost use Rattle.snapshot_scan.specs.Snapshots.{fault_count};
@@ -54,6 +54,13 @@ impl<R: SealedReader> Found<R> {
         ensures { result ≡ self.now.snapshot.version }
     {
         self.snapshot.version()
+    }
+
+    /// How often its readers have failed, at most the last u64.
+    pub fn faults(&self) -> u64
+        ensures { result ≡ min (fault_count self.now.snapshot.parts) (2 ^ 64 - 1) }
+    {
+        self.snapshot.faults()
     }
 
     /// Its snapshot, which goes back to the tablet whose it is.

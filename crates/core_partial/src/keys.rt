@@ -6,9 +6,9 @@ use pk_values::Key;
 /// place of the row that was made of it, in files that are numbered from 0. None where there is no row.
 #[derive(Drop)]
 pub struct PreparedKey {
-    pub code: KeyBytes,
-    pub key: Key,
-    pub change: KeyChange,
-    pub was: Option<Place>,
-    pub made: Option<Place>,
+    pub(crate) code: KeyBytes,
+    pub(crate) key: Key,
+    pub(crate) change: KeyChange,
+    pub(crate) was: Option<Place>,
+    pub(crate) made: Option<Place>,
 }

@@ -5,7 +5,7 @@ ghost use Rattle.snapshot_scan.specs.Snapshots.{fault_count};
 ghost use Rattle.core_publish.specs.Prepared.{EachTells};
 ghost use Rattle.core_partial.specs.Found.{IsFoundOf};
 ghost use Rattle.core_partial.specs.Preparing.{OnOutsideDamage};
-ghost use Rattle.core_partial.specs.Prepared.{WasMadeOver, located_of, nothing_again};
+ghost use Rattle.core_partial.specs.Prepared.{WasMadeOver, located_move, nothing_again};
 
 use crate::{Found, PreparedPartial};
 use dev_traits::{FileMaker, OutsideFault, SealedReader};
@@ -33,7 +33,7 @@ pub fn prepare_partial<M: FileMaker, R: SealedReader>(
     ensures again { IfOk result (λ p. p.again ≡ nothing_again) }
 
     // It has the places at which the load was located, and its rows were made over the map that was found.
-    ensures places { IfOk result (λ p. map located_of p.keys ≡ found.old.located) }
+    ensures places { IfOk result (λ p. map located_move p.keys ≡ found.old.located) }
     ensures over { IfOk result (λ p. (m : Rows) → IsFoundOf found.old m → WasMadeOver p m) }
 
     // What was found stays.

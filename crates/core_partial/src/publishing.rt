@@ -5,8 +5,6 @@ ghost use Rattle.pk_model.specs.declared.books.Book.{Book};
 ghost use Rattle.pk_model.specs.declared.calls.Call.TheVariants as call;
 ghost use Rattle.pk_model.specs.declared.calls.Reply.{Reply};
 ghost use Rattle.pk_model.specs.declared.calls.Reply.TheVariants as reply;
-ghost use Rattle.pk_model.specs.Books.{rows_at};
-ghost use Rattle.pk_model.specs.Tables.{Rows};
 ghost use Rattle.tablet_state.specs.Contents.{current_number, worn_of};
 ghost use Rattle.tablet_state.specs.Moving.{total_reads};
 ghost use Rattle.tablet_state.specs.Snapshots.{Lends};
@@ -14,7 +12,7 @@ ghost use Rattle.tablet_state.specs.State.{Has, StandsThroughout, Steps, faults_
 ghost use Rattle.core_publish.specs.Replies.{TellsShut, shut_after, told_by_reply};
 ghost use Rattle.core_publish.specs.Publishing.{IsPublishing, published_in, uses_up};
 ghost use Rattle.core_partial.specs.Moving.{moved_keys};
-ghost use Rattle.core_partial.specs.Prepared.{WasMadeOver};
+ghost use Rattle.core_partial.specs.Prepared.{WasLocatedIn};
 ghost use Rattle.core_partial.specs.Publishing.{IsHeldWith, IsPublishDamage, emptied, reply_to};
 
 use crate::PreparedPartial;
@@ -75,16 +73,13 @@ pub fn publish_partial<S: Store>(
     requires unspent { prepared.old.spent ≡ false }
     requires schema { prepared.old.schema ≡ state.old.contents.schema }
 
-    // Where the state has a book that keeps the version at which it was located, it was made over the rows of it there.
-    requires located { (b : Book) (m : Rows) → Has S.view state.old b → rows_at b prepared.old.version ≡ Some m
-        → WasMadeOver prepared.old m }
-
-    // Where the state has a book, this is a step of it, and the state has the book that is left.
-    ensures turn { (b : Book) → Has S.view state.old b
+    // Where the state has a book, and the load was made over the rows of the version at which it was located as far as the
+    // book keeps it, this is a step of the book, and the state has the book that is left.
+    ensures turn { (b : Book) → Has S.view state.old b → WasLocatedIn b prepared.old
         → Steps S.view state.new b seq (call.Load prepared.old.load) result }
 
     // Every image that a crash in it might have left stands for the book before it or for the one after.
-    ensures any_moment { (b : Book) → Has S.view state.old b → state.old.closed ≡ None
+    ensures any_moment { (b : Book) → Has S.view state.old b → WasLocatedIn b prepared.old → state.old.closed ≡ None
         → StandsThroughout state.old.contents.schema b seq (call.Load prepared.old.load) (S.view state.old.store)
         (S.view state.new.store) }
 
@@ -92,7 +87,7 @@ pub fn publish_partial<S: Store>(
     // Damage is that of the index or of a block that was read, and a state that has a book meets none.
     ensures damaged { (d : Damaged) → result ≡ reply.Damaged d
         → IsPublishDamage state.old.contents state.old.segments prepared.old d }
-    ensures intact { (b : Book) → Has S.view state.old b → (d : Damaged) → result ≡ reply.Damaged d → ⊥ }
+    ensures intact { (b : Book) → Has S.view state.old b → WasLocatedIn b prepared.old → (d : Damaged) → result ≡ reply.Damaged d → ⊥ }
     ensures tells { TellsShut state.old.closed result }
     ensures shut { state.new.closed ≡ shut_after state.old.closed seq result }
 

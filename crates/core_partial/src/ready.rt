@@ -9,12 +9,10 @@ ghost use Rattle.core_publish.specs.Publication.{IsInFour, entry_from, placed_fr
 ghost use Rattle.std.specs.List.{AllByRecursion};
 ghost use Rattle.core_publish.specs.Publishing.{StandsTwice, is_below, stored_places};
 ghost use Rattle.core_partial.specs.Moving.{IsAgain, moved_keys};
-ghost use Rattle.core_partial.specs.Prepared.{WasMadeOver, folded_of, made_of};
+ghost use Rattle.core_partial.specs.Prepared.{WasLocatedIn, folded_of, made_move};
 ghost use Rattle.core_partial.specs.Publishing.{IsTakenOf, IsWrongFor, dead_places, emptied, moves_after, place_from};
 ghost use Rattle.core_partial.specs.declared.ready.UnreadyFault.TheVariants as fault;
 ghost use Rattle.partial_loads.specs.Making.{made_rows};
-ghost use Rattle.pk_model.specs.Books.{rows_at};
-ghost use Rattle.pk_model.specs.Tables.{Rows};
 
 use crate::prepared::Again;
 use crate::{PreparedKey, PreparedPartial};
@@ -57,7 +55,7 @@ fn places_to_die<S: Store>(
 ) -> Result<Vec<Place>, AllocError>
     requires fits { first < 2 ^ 62 }
     requires four { AllByRecursion (λ p. p.segment < 4) stale.now }
-    ensures { IfOk result (λ places. places.items ≡ stored_places state.now.contents.codes (map made_of keys.now)
+    ensures { IfOk result (λ places. places.items ≡ stored_places state.now.contents.codes (map made_move keys.now)
         ++ map (place_from first) stale.now) }
 {
     let mut places = Vec::with_capacity(alloc, keys.len())?;
@@ -87,9 +85,9 @@ fn dead_of<S: Store>(
     requires four { AllByRecursion (λ p. p.segment < 4) stale.now }
     ensures rise { IfOk result (λ places. PlacesRise places.items) }
     ensures found { IfOk result (λ places. HaveSame places.items
-        (stored_places state.now.contents.codes (map made_of keys.now) ++ map (place_from first) stale.now)) }
+        (stored_places state.now.contents.codes (map made_move keys.now) ++ map (place_from first) stale.now)) }
     ensures twice { IfErr result (λ e. e ≡ fault.Index → StandsTwice
-        (stored_places state.now.contents.codes (map made_of keys.now) ++ map (place_from first) stale.now)) }
+        (stored_places state.now.contents.codes (map made_move keys.now) ++ map (place_from first) stale.now)) }
 {
     let mut places = places_to_die(alloc, state, keys, stale, first)?;
     places.sort_unstable_by_key(|p| (p.segment, p.row));
@@ -127,7 +125,7 @@ fn moves_of(
     requires fits { first < 2 ^ 63 }
     requires more_fits { more < 2 ^ 63 }
     ensures { IfOk result (λ index. index.items
-        ≡ map (entry_from first) (map made_of keys.now) ++ map (entry_from more) moves.now) }
+        ≡ map (entry_from first) (map made_move keys.now) ++ map (entry_from more) moves.now) }
 {
     let mut index = Vec::with_capacity(alloc, keys.len())?;
     for key in keys {
@@ -153,8 +151,6 @@ pub fn ready_of<S: Store>(
     requires goes { refusal_of state.old ≡ None }
     requires unspent { prepared.old.spent ≡ false }
     requires schema { prepared.old.schema ≡ state.old.contents.schema }
-    requires located { (b : Book) (m : Rows) → Has S.view state.old b → rows_at b prepared.old.version ≡ Some m
-        → WasMadeOver prepared.old m }
     requires again { IsAgain prepared.old.schema
         (moved_keys state.old.contents prepared.old.version prepared.old.keys) again }
     requires over { (b : Book) → Has S.view state.old b → again.rows ≡ made_rows prepared.old.schema
@@ -165,7 +161,7 @@ pub fn ready_of<S: Store>(
         ready.change.index.items ready.body ready.current) }
 
     // Over a book that the state has, what is ready is the load's change.
-    ensures change { IfOk result (λ ready. (b : Book) → Has S.view state.old b
+    ensures change { IfOk result (λ ready. (b : Book) → Has S.view state.old b → WasLocatedIn b prepared.old
         → IsChangeOf state.old.contents.schema (index_of state.old.contents) b prepared.old.load
         state.old.contents.next_file (map (λ m. (S.Maker.sealed_bytes m.sealed, m.footer)) ready.change.files.items)
         ready.change.dead.items ready.change.index.items) }
@@ -174,7 +170,7 @@ pub fn ready_of<S: Store>(
         (map (λ m. (S.Maker.sealed_bytes m.sealed, m.footer)) ready.change.files.items) ready.change.dead.items
         ready.change.index.items) }
     ensures wrong { IsErrOf result fault.Index → IsWrongFor state.old.contents prepared.old }
-    ensures intact { (b : Book) → Has S.view state.old b → IfErr result (λ e. e ≡ fault.Memory) }
+    ensures intact { (b : Book) → Has S.view state.old b → WasLocatedIn b prepared.old → IfErr result (λ e. e ≡ fault.Memory) }
     ensures rests { Rests S.view state.old state.new }
     ensures faults { faults_of S.view state.new ≡ faults_of S.view state.old }
     ensures has { (b : Book) → Has S.view state.old b → Has S.view state.new b }

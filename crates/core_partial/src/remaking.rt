@@ -6,7 +6,7 @@ ghost use Rattle.pk_values.specs.declared.cells.Value.{Value};
 ghost use Rattle.pk_model.specs.declared.books.Book.{Book};
 ghost use Rattle.segment_read.specs.Reads.{OnDamage};
 ghost use Rattle.tablet_state.specs.Contents.{index_of};
-ghost use Rattle.tablet_state.specs.Moving.{HasRowOf, stays_live, total_reads};
+ghost use Rattle.tablet_state.specs.Moving.{HasRowOf, keeps_live, total_reads};
 ghost use Rattle.tablet_state.specs.Snapshots.{Lends};
 ghost use Rattle.tablet_state.specs.State.{Has, faults_of};
 ghost use Rattle.partial_loads.specs.Folded.{HasCode};
@@ -52,7 +52,7 @@ pub fn is_moved<S: Store>(
     was: &Option<Place>,
     now: &Option<Place>,
 ) -> bool
-    ensures { result ≡ has_moved (stays_live state.now.contents version) was.now now.now }
+    ensures { result ≡ has_moved (keeps_live state.now.contents version) was.now now.now }
 {
     match (was, now) {
         (None, None) => false,

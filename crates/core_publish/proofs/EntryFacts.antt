@@ -49,7 +49,7 @@ place-on first (e ∷ es) k = by (place-on first es k) (eq_by_cmp key_cmp k e.ke
     by rest true = refl
     by rest false = rest
 
-place-in : (s : Layout) (first : ℕ) (files : List (List (List Value))) (k : List Value) → place_in s first files k ≡ placed_from first (place_in s 0 files k)
+pub place-in : (s : Layout) (first : ℕ) (files : List (List (List Value))) (k : List Value) → place_in s first files k ≡ placed_from first (place_in s 0 files k)
 place-in s first files k =
     let here : (n : ℕ) → place_in s n files k ≡ merged_place (moved_over s n files) k = λ n.
     ap (λ es. merged_place es k) (moved-fresh s (fresh n files) n files (agree-fresh n files (λ m. []))) in
@@ -57,7 +57,7 @@ place-in s first files k =
     here first ∙ ap (λ n. merged_place (moved_over s n files) k) (sym none) ∙ ap (λ es. merged_place es k) (sym (over-on s first 0 files))
     ∙ place-on first (moved_over s 0 files) k ∙ ap (placed_from first) (sym (here 0))
 
-entries-on : (s : Layout) (first : ℕ) (files : List (List (List Value))) (keys : List (List Value))
+pub entries-on : (s : Layout) (first : ℕ) (files : List (List (List Value))) (keys : List (List Value))
     → map (entry_from first) (code_moves (key_code s) (moves_to s 0 files keys)) ≡ code_moves (key_code s) (moves_to s first files keys)
 entries-on s first files [] = refl
 entries-on s first files (k ∷ keys) = (λ i. (key_code s k, sym (place-in s first files k) i) ∷ entries-on s first files keys i)
@@ -94,7 +94,7 @@ pub length-files : (n : ℕ) (rows : List (List Value)) → length (files_from n
 length-files zero rows = refl
 length-files (suc n) rows = ap suc (length-files n (drop 65536 rows))
 
-moves-below : (s : Layout) (files : List (List (List Value))) (keys : List (List Value)) → length files ≤ 4 → AllByRecursion (λ e. IsInFour e.1) (code_moves (key_code s) (moves_to s 0 files keys))
+pub moves-below : (s : Layout) (files : List (List (List Value))) (keys : List (List Value)) → length files ≤ 4 → AllByRecursion (λ e. IsInFour e.1) (code_moves (key_code s) (moves_to s 0 files keys))
 moves-below s files [] h = tt
 moves-below s files (k ∷ keys) h = (
   subst (λ es. IsInFour (merged_place es k)) (sym (moved-fresh s (fresh 0 files) 0 files (agree-fresh 0 files (λ m. [])))) (place-below (moved_over s 0 files) k (over-below s 4 0 files (omega arith))),

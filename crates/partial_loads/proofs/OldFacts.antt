@@ -78,7 +78,7 @@ Above s k [] = ⊤
 Above s k (row ∷ rows) = T (is_lt (key_cmp k (key_of s row)))
 
 module _ (s : Layout) (load : Load) (clean : schema_fault s.columns s.keys ≡ None) (lawful : IsLawful s load) where
-  fit : (fs : List Folded) (os : List (Option Row)) → HaveChanges load fs → AllByRecursion (HasCode s) fs → AreOlds s fs os
+  pub fit : (fs : List Folded) (os : List (Option Row)) → HaveChanges load fs → AllByRecursion (HasCode s) fs → AreOlds s fs os
       → All (λ row. IsTrue (fits_row s row)) (made_of s load.given fs os)
   fit [] os have codes olds = All-nil (λ row. IsTrue (fits_row s row))
   fit (f ∷ fs) [] have codes olds = absurd olds
@@ -90,7 +90,7 @@ module _ (s : Layout) (load : Load) (clean : schema_fault s.columns s.keys ≡ N
       go (Some row) is more =
           All-cons (λ row. IsTrue (fits_row s row)) row (made_of s load.given fs os) (made-lawful s load f o row clean lawful have.0 (old-lawful s f o codes.0.key olds.0) is).fits more
 
-  key-is : (f : Folded) (o : Option Row) (row : Row) → f.change ≡ change_at load.given None load.ops f.key → HasCode s f
+  pub key-is : (f : Folded) (o : Option Row) (row : Row) → f.change ≡ change_at load.given None load.ops f.key → HasCode s f
       → IfSome o (λ row. IsTrue (fits_row s row) × (key_of s row ≡ f.key)) → apply s load.given None f.key f.change o ≡ Some row → key_of s row ≡ f.key
   key-is f o row have code old is = (made-lawful s load f o row clean lawful have (old-lawful s f o code.key old) is).key_first
 
@@ -111,7 +111,7 @@ module _ (s : Layout) (load : Load) (clean : schema_fault s.columns s.keys ≡ N
       go (Some row) is more =
           subst (λ q. T (is_lt (key_cmp k q))) (sym (key-is f o row have.0 codes.0 olds.0 is)) (run.first (is_lt (key_cmp k f.key)) (rise_strictly (f.key ∷ folded_keys fs)) rise)
 
-  rises : (fs : List Folded) (os : List (Option Row)) → T (rise_strictly (folded_keys fs)) → HaveChanges load fs → AllByRecursion (HasCode s) fs → AreOlds s fs os
+  pub rises : (fs : List Folded) (os : List (Option Row)) → T (rise_strictly (folded_keys fs)) → HaveChanges load fs → AllByRecursion (HasCode s) fs → AreOlds s fs os
       → RowsRise s (made_of s load.given fs os)
   rises [] os rise have codes olds = tt
   rises (f ∷ fs) [] rise have codes olds = absurd olds

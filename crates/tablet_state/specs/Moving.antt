@@ -24,8 +24,8 @@ lives_in None p = false
 lives_in (Some rowsets) p = is_live rowsets p
 
 -- the version is kept, and has a live row at the place as it stands now
-abbrev pub stays_live : Contents → ℕ → Place → Truth
-stays_live c v p = cond (nat_le c.floor v) (lives_in (rowsets_at c v) p) false
+abbrev pub keeps_live : Contents → ℕ → Place → Truth
+keeps_live c v p = cond (nat_le c.floor v) (lives_in (rowsets_at c v) p) false
 
 -- there is a segment of the file, which has this row
 pub record HasRowOf (segments : List SegmentView) (p : Place) : Type 0 where
@@ -60,7 +60,7 @@ total_reads (g ∷ gs) = g.reader.reads + total_reads gs
 -- there.
 pub record TellsKey (c : Contents) (b : Book) (k : List Value) : Type 0 where
   pub absent : index_of c k ≡ None → get b.current k ≡ None
-  pub stood : (v : ℕ) (p : Place) → index_of c k ≡ Some p → stays_live c v p ≡ true
+  pub stood : (v : ℕ) (p : Place) → index_of c k ≡ Some p → keeps_live c v p ≡ true
       → (m : Rows) × (rows_at b v ≡ Some m) × (get b.current k ≡ get m k)
 
 abbrev pub KeysAreTold : Type 0
@@ -70,4 +70,4 @@ KeysAreTold = (c : Contents) (stored : Files) (kept : List Entry) (b : Book)
 -- where an open state has a book, each place that its index has is a live row of the current version
 abbrev pub PlacesAreLive : {S : Type 0} → (S → View) → Shown S → Type 0
 PlacesAreLive view st = (b : Book) → Has view st b → st.closed ≡ None → (k : List Value) (p : Place) → index_of st.contents k ≡ Some p
-    → stays_live st.contents (current_number st.contents) p ≡ true
+    → keeps_live st.contents (current_number st.contents) p ≡ true

@@ -9,7 +9,7 @@ ghost use Rattle.std.specs.FinMap.{get};
 ghost use Rattle.index_level0.specs.declared.place.Place.{Place as Spot};
 ghost use Rattle.segment_read.specs.Reads.{KnowsFooter};
 ghost use Rattle.tablet_state.specs.Contents.{index_of};
-ghost use Rattle.tablet_state.specs.Moving.{HasAt, HasRowOf, IsCopyOf, KeysAreTold, PlacesAreLive, stays_live, total_reads};
+ghost use Rattle.tablet_state.specs.Moving.{HasAt, HasRowOf, IsCopyOf, KeysAreTold, PlacesAreLive, keeps_live, total_reads};
 ghost use Rattle.tablet_state.specs.Seen.{segment_seen, segments_of};
 ghost use Rattle.tablet_state.specs.Snapshots.{Lends, SameButReads};
 ghost use Rattle.tablet_state.specs.State.{Has, Rests, faults_of, segment_of};
@@ -50,7 +50,7 @@ fn copy_of<R: SealedReader>(
 impl<S: Store> State<S> {
     /// Whether a version is kept and has a live row at a place, as the version stands now. It reads nothing.
     pub fn stays_live(&self, v: u64, place: &Place) -> bool
-        ensures stays { result ≡ stays_live self.now.contents v place.now }
+        ensures stays { result ≡ keeps_live self.now.contents v place.now }
 
         // Then there is a segment of the place's file, which has the row.
         ensures there { result ≡ true → HasRowOf self.now.segments place.now }
@@ -58,7 +58,13 @@ impl<S: Store> State<S> {
         // The places that the index of a book has are live in the current version.
         ensures live { PlacesAreLive S.view self.now }
     {
-        v >= self.floor && v <= self.version() && self.is_live(v, place)
+        if v < self.floor {
+            return false;
+        }
+        if self.version() < v {
+            return false;
+        }
+        self.is_live(v, place)
     }
 
     /// A segment of a file, with a reader of its own, which has counted nothing. Nothing is read: it counts as one read
