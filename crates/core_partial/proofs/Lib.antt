@@ -4,3 +4,5 @@ pub mod OverFacts
 pub mod LendFacts
 pub mod FoundFacts
 pub mod RemakeFacts
+pub mod OldFacts
+pub mod MakingFacts

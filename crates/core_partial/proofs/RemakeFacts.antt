@@ -53,13 +53,13 @@ filter-append test (x ∷ xs) ys = go (test x) (filter-append test xs ys)
     go true e = ap (λ zs. x ∷ zs) e
     go false e = e
 
-olds-more : (s : Layout) (fs : List Folded) (os : List (Option Row)) (f : Folded) (o : Option Row) → AreOlds s fs os → IfSome o (λ row. IsTrue (fits_row s row) × (key_of s row ≡ f.key)) → AreOlds s (fs ++ f ∷ []) (os ++ o ∷ [])
+pub olds-more : (s : Layout) (fs : List Folded) (os : List (Option Row)) (f : Folded) (o : Option Row) → AreOlds s fs os → IfSome o (λ row. IsTrue (fits_row s row) × (key_of s row ≡ f.key)) → AreOlds s (fs ++ f ∷ []) (os ++ o ∷ [])
 olds-more s [] [] f o h g = (g, tt)
 olds-more s [] (x ∷ os) f o h g = absurd h
 olds-more s (x ∷ fs) [] f o h g = absurd h
 olds-more s (x ∷ fs) (y ∷ os) f o h g = (h.0, olds-more s fs os f o h.1 g)
 
-made-more : (s : Layout) (given : List ℕ) (fs : List Folded) (os : List (Option Row)) (f : Folded) (o : Option Row) → AreOlds s fs os
+pub made-more : (s : Layout) (given : List ℕ) (fs : List Folded) (os : List (Option Row)) (f : Folded) (o : Option Row) → AreOlds s fs os
     → rows_made s given (fs ++ f ∷ []) (os ++ o ∷ []) ≡ rows_made s given fs os ++ option_to_list (apply s given None f.key f.change o)
 made-more s given [] [] f o h = append-nil (option_to_list (apply s given None f.key f.change o))
 made-more s given [] (x ∷ os) f o h = absurd h
@@ -68,14 +68,14 @@ made-more s given (x ∷ fs) (y ∷ os) f o h =
     ap (λ rows. option_to_list (apply s given None x.key x.change y) ++ rows) (made-more s given fs os f o h.1)
     ∙ sym (append_assoc (option_to_list (apply s given None x.key x.change y)) (rows_made s given fs os) (option_to_list (apply s given None f.key f.change o)))
 
-results-more : (s : Layout) (given : List ℕ) (ks : List PreparedKey) (os : List (Option Row)) (k : PreparedKey) (o : Option Row) → AreOlds s (map folded_of ks) os
+pub results-more : (s : Layout) (given : List ℕ) (ks : List PreparedKey) (os : List (Option Row)) (k : PreparedKey) (o : Option Row) → AreOlds s (map folded_of ks) os
     → results_of s given (ks ++ k ∷ []) (os ++ o ∷ []) ≡ results_of s given ks os ++ (k.key, row_made s given k o) ∷ []
 results-more s given [] [] k o h = refl
 results-more s given [] (x ∷ os) k o h = absurd h
 results-more s given (x ∷ ks) [] k o h = absurd h
 results-more s given (x ∷ ks) (y ∷ os) k o h = ap (λ rs. (x.key, row_made s given x y) ∷ rs) (results-more s given ks os k o h.1)
 
-left-made : (s : Layout) (given : List ℕ) (ks : List PreparedKey) (os : List (Option Row)) → rows_left (results_of s given ks os) ≡ rows_made s given (map folded_of ks) os
+pub left-made : (s : Layout) (given : List ℕ) (ks : List PreparedKey) (os : List (Option Row)) → rows_left (results_of s given ks os) ≡ rows_made s given (map folded_of ks) os
 left-made s given [] os = refl
 left-made s given (k ∷ ks) [] = refl
 left-made s given (k ∷ ks) (o ∷ os) = go (row_made s given k o) (left-made s given ks os)
@@ -85,7 +85,7 @@ left-made s given (k ∷ ks) (o ∷ os) = go (row_made s given k o) (left-made s
     go None e = e
     go (Some row) e = ap (λ rows. row ∷ rows) e
 
-placed-more : (s : Layout) (i : ℕ) (rs : List KeyResult) (key : List Value) (row : Option Row) → placed s i (rs ++ (key, row) ∷ []) ≡ placed s i rs ++ (key_code s key, place_for (i + length (rows_left rs)) row) ∷ []
+pub placed-more : (s : Layout) (i : ℕ) (rs : List KeyResult) (key : List Value) (row : Option Row) → placed s i (rs ++ (key, row) ∷ []) ≡ placed s i rs ++ (key_code s key, place_for (i + length (rows_left rs)) row) ∷ []
 placed-more s i [] key None = refl
 placed-more s i [] key (Some row) = let e : i ≡ i + 0 = omega arith in ap (λ n. (key_code s key, Some (place_at n)) ∷ []) e
 placed-more s i ((k, None) ∷ rs) key row = ap (λ es. (key_code s k, None) ∷ es) (placed-more s i rs key row)
@@ -161,7 +161,7 @@ rest-of : (k : List Value) (ks : List PreparedKey) → T (rise_strictly (k ∷ k
 rest-of k [] h = tt
 rest-of k (j ∷ ks) h = run.second (is_lt (key_cmp k j.key)) (rise_strictly (keys_in (j ∷ ks))) h
 
-all-rise : (s : Layout) (given : List ℕ) (ks : List PreparedKey) (os : List (Option Row)) → T (rise_strictly (keys_in ks)) → AllRise (results_of s given ks os)
+pub all-rise : (s : Layout) (given : List ℕ) (ks : List PreparedKey) (os : List (Option Row)) → T (rise_strictly (keys_in ks)) → AllRise (results_of s given ks os)
 all-rise s given [] os h = tt
 all-rise s given (k ∷ ks) [] h = tt
 all-rise s given (k ∷ ks) (o ∷ os) h = (above-all s given k.key ks os h, all-rise s given ks os (rest-of k.key ks h))
@@ -169,24 +169,24 @@ all-rise s given (k ∷ ks) (o ∷ os) h = (above-all s given k.key ks os h, all
 abbrev OwnAll : Layout → List KeyResult → Type 0
 OwnAll s rs = AllByRecursion (λ r. (row : Row) → r.1 ≡ Some row → key_of s row ≡ r.0) rs
 
-own-all : (s : Layout) (load : Load) → schema_fault s.columns s.keys ≡ None → IsLawful s load → (ks : List PreparedKey) (os : List (Option Row)) → HaveChanges load (map folded_of ks) → AreCoded s ks
+pub own-all : (s : Layout) (load : Load) → schema_fault s.columns s.keys ≡ None → IsLawful s load → (ks : List PreparedKey) (os : List (Option Row)) → HaveChanges load (map folded_of ks) → AreCoded s ks
     → AreOlds s (map folded_of ks) os → OwnAll s (results_of s load.given ks os)
 own-all s load clean lawful [] os have coded olds = tt
 own-all s load clean lawful (k ∷ ks) [] have coded olds = tt
 own-all s load clean lawful (k ∷ ks) (o ∷ os) have coded olds =
     (λ row e. key-is s load clean lawful (folded_of k) o row have.0 coded.0 olds.0 e, own-all s load clean lawful ks os have.1 coded.1 olds.1)
 
-same-keys : (s : Layout) (given : List ℕ) (ks : List PreparedKey) (os : List (Option Row)) → AreOlds s (map folded_of ks) os → keys_of (results_of s given ks os) ≡ keys_in ks
+pub same-keys : (s : Layout) (given : List ℕ) (ks : List PreparedKey) (os : List (Option Row)) → AreOlds s (map folded_of ks) os → keys_of (results_of s given ks os) ≡ keys_in ks
 same-keys s given [] os h = refl
 same-keys s given (k ∷ ks) [] h = absurd h
 same-keys s given (k ∷ ks) (o ∷ os) h = ap (λ keys. k.key ∷ keys) (same-keys s given ks os h.1)
 
-keys-rise : (s : Layout) (rows : List Row) → RowsRise s rows → KeysRise s rows
+pub keys-rise : (s : Layout) (rows : List Row) → RowsRise s rows → KeysRise s rows
 keys-rise s [] h = tt
 keys-rise s (a ∷ []) h = tt
 keys-rise s (a ∷ b ∷ rows) h = (h.0, keys-rise s (b ∷ rows) h.1)
 
-all-coded : (s : Layout) (ks : List PreparedKey) → AreCoded s ks → AllByRecursion (HasCode s) (map folded_of ks)
+pub all-coded : (s : Layout) (ks : List PreparedKey) → AreCoded s ks → AllByRecursion (HasCode s) (map folded_of ks)
 all-coded s [] h = tt
 all-coded s (k ∷ ks) h = (h.0, all-coded s ks h.1)
 

@@ -5,3 +5,4 @@ pub mod Publishing
 pub mod Results
 pub mod Preparing
 pub mod Again
+pub mod Making

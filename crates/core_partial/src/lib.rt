@@ -6,6 +6,7 @@ mod again;
 mod found;
 mod keys;
 mod locating;
+mod making;
 mod prepared;
 mod preparing;
 mod publishing;

@@ -10,7 +10,7 @@ use Rattle.snapshot_scan.specs.Parts.{PartView}
 use Rattle.snapshot_scan.specs.Snapshots.{SnapshotView}
 use Rattle.partial_loads.specs.declared.folds.Folded.{Folded}
 use Rattle.old_rows.specs.Reading.{AreFilled, AreOldRows, HasNone, HaveKeys, Olds, ReadBlocks, ReadsAsked}
-use Rattle.old_rows.specs.Wanted.{AreWanted, Block, PlacesInOrder, asked, block_of, is_of, place_wanted, runs}
+use Rattle.old_rows.specs.Wanted.{AreWanted, Block, IsWanted, PlacesInOrder, asked, block_of, is_of, place_wanted, runs}
 use Rattle.old_rows.specs.declared.wanted.Wanted.{Wanted}
 use Rattle.old_rows.proofs.RunFacts.{runs-all, runs-rise}
 
@@ -28,7 +28,7 @@ have-keys keys located n wanted are i d lt =
     within keys (get_or wanted i d).key one.key one.there
 
 pub filled-none : (v : SnapshotView) (keys : List Folded) (olds : Olds) → HasNone (length keys) olds → AreFilled v keys [] olds
-filled-none v keys olds none = record { long = none.long; good = λ i f row has got. absurd (none.none i row got); full = tt }
+filled-none v keys olds none = record { long = none.long; good = λ i f row has got. absurd (none.none i row got); full = tt; only = λ i row got. absurd (none.none i row got) }
 
 any-there : (olds : Olds) (wanted : List Wanted) (i : ℕ) → AllByRecursion (λ w. (row : List Value) × (slice_get olds w.key ≡ Some (Some row))) wanted
     → list_any (is_of i) wanted ≡ true → (row : List Value) × (slice_get olds i ≡ Some (Some row))
@@ -40,12 +40,33 @@ any-there olds (w ∷ ws) i full h = go (w.key == i) refl h (any-there olds ws i
     go true e h more = (full.0.0, ap (slice_get olds) (sym (eqb-true w.key i e)) ∙ full.0.1)
     go false e h more = more h
 
+any-wanted : (keys : List Folded) (located : List CodeMove) (wanted : List Wanted) (i : ℕ) (f : Folded) (e : CodeMove) → All (IsWanted keys located) wanted → list_any (is_of i) wanted ≡ true
+    → slice_get keys i ≡ Some f → slice_get located i ≡ Some e → (p : Place) × (asked f e ≡ Some p)
+any-wanted keys located [] i f e each h there at = cc
+any-wanted keys located (w ∷ ws) i f e each h there at =
+    go (w.key == i) refl h (λ more. any-wanted keys located ws i f e (λ j d lt. each (suc j) d (omega arith)) more there at)
+  where
+    some_same : {X : Type 0} (x y : X) → Some x ≡ Some y → x ≡ y
+    some_same x y e = cc
+
+    one : IsWanted keys located w
+    one = each 0 w (omega arith)
+
+    go : (t : Truth) → (w.key == i) ≡ t → (t || list_any (is_of i) ws) ≡ true → (list_any (is_of i) ws ≡ true → (p : Place) × (asked f e ≡ Some p)) → (p : Place) × (asked f e ≡ Some p)
+    go true e' h more =
+        let here : w.key ≡ i = eqb-true w.key i e' in
+        let key : one.key ≡ f = some_same one.key f (sym one.there ∙ ap (slice_get keys) here ∙ there) in
+        let entry : one.entry ≡ e = some_same one.entry e (sym one.at ∙ ap (slice_get located) here ∙ at) in
+        (w.place, (λ j. asked (sym key j) (sym entry j)) ∙ one.asks)
+    go false e' h more = more h
+
 pub olds-are : (v : SnapshotView) (keys : List Folded) (located : List CodeMove) (wanted : List Wanted) (olds : Olds) → AreWanted keys located (length keys) wanted
     → AreFilled v keys wanted olds → AreOldRows v keys located olds
 olds-are v keys located wanted olds are filled = record {
   long = filled.long;
   good = filled.good;
   all = λ i f e p there at asks. any-there olds wanted i filled.full (are.all i f e p (within keys i f there) there at asks);
+  only = λ i f e row there at got. any-wanted keys located wanted i f e are.each (filled.only i row got) there at;
 }
 
 pub reads-asked : (keys : List Folded) (located : List CodeMove) (wanted : List Wanted) (old new : List PartView) → AreWanted keys located (length keys) wanted

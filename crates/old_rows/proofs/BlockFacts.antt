@@ -30,9 +30,9 @@ at-take (suc n) (x ∷ xs) zero lt = refl
 at-take (suc n) (x ∷ xs) (suc k) lt = at-take n xs k (omega arith)
 
 at-drop : (m : ℕ) (xs : List (List Value)) (k : ℕ) → slice_get (drop m xs) k ≡ slice_get xs (m + k)
-at-drop zero xs k = refl
+at-drop zero xs k = let e : k ≡ 0 + k = omega arith in ap (slice_get xs) e
 at-drop (suc m) [] k = refl
-at-drop (suc m) (x ∷ xs) k = at-drop m xs k
+at-drop (suc m) (x ∷ xs) k = let e : suc (m + k) ≡ suc m + k = omega arith in at-drop m xs k ∙ ap (slice_get (x ∷ xs)) e
 
 -- the row of a file in its block
 pub in-block : (b r : ℕ) (xs : List (List Value)) → b ≡ r / 1024 → slice_get (block_at b xs) (r % 1024) ≡ slice_get xs r

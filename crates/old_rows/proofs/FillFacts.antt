@@ -1,6 +1,8 @@
 -- Old rows are filled in, one after the other.
-use Rattle.std.proofs.Common.{◌≡◌, ◌≢◌, refl, ap, sym, subst, ◌∙◌, ℕ, zero, suc, ◌+◌, ◌<◌, ◌≤◌, List, [], ◌∷◌, ◌++◌, length, take, Option, Some, None, Bool as Truth, true, false, ◌==◌, slice_get, slice_set, get_or, arith, append_assoc, length-set}
-use Rattle.std.specs.List.{AllByRecursion}
+use Rattle.std.proofs.Common.{◌≡◌, ◌≢◌, refl, ap, sym, subst, ◌∙◌, ℕ, zero, suc, ◌+◌, ◌<◌, ◌≤◌, List, [], ◌∷◌, ◌++◌, length, take, Option, Some, None, Bool as Truth, true, false, ◌==◌, ◌||◌, slice_get, slice_set, get_or, arith, append_assoc, length-set}
+use Rattle.std.specs.List.{list_any, AllByRecursion}
+use Rattle.std.proofs.lemmas.List.Folds.{list_any-append}
+use Rattle.old_rows.specs.Wanted.{is_of}
 use Rattle.std.proofs.lemmas.Bool.{eqb-false, eqb-true}
 use Rattle.std.proofs.lemmas.List.{append-nil, take_more}
 use Rattle.pk_values.specs.Schemas.{fits_row, key_of}
@@ -47,8 +49,23 @@ filled-more v keys done olds w f row filled lt there old = record {
   long = length-set olds w.key (Some row) ∙ filled.long;
   good = λ i g r has got. go i g r has got (w.key == i) refl;
   full = all-more (IsThere (slice_set olds w.key (Some row))) done w (all-so (IsThere olds) (IsThere (slice_set olds w.key (Some row))) keep done filled.full) (row, set-here olds w.key (Some row) short);
+  only = λ i r got. list_any-append (is_of i) done (w ∷ []) ∙ just i r got (w.key == i) refl;
 }
   where
+    or_left : (a b : Truth) → a ≡ true → (a || b) ≡ true
+    or_left true b h = refl
+    or_left false b h = cc
+
+    or_right : (a b : Truth) → b ≡ true → (a || b) ≡ true
+    or_right true b h = refl
+    or_right false b h = h
+
+    just : (i : ℕ) (r : List Value) → slice_get (slice_set olds w.key (Some row)) i ≡ Some (Some r) → (t : Truth) → (w.key == i) ≡ t
+        → (list_any (is_of i) done || list_any (is_of i) (w ∷ [])) ≡ true
+    just i r got true e = or_right (list_any (is_of i) done) (list_any (is_of i) (w ∷ [])) (ap (λ t. t || false) e)
+    just i r got false e =
+        or_left (list_any (is_of i) done) (list_any (is_of i) (w ∷ [])) (filled.only i r (sym (set-other olds w.key i (Some row) (eqb-false w.key i e)) ∙ got))
+
     short : w.key < length olds
     short = omega (arith, lt, filled.long)
 
@@ -80,4 +97,5 @@ filled-same v w keys done olds same filled = record {
   long = filled.long;
   good = λ i f row has got. old-same v w f.key row same (filled.good i f row has got);
   full = filled.full;
+  only = filled.only;
 }

@@ -4,3 +4,6 @@ pub mod FillFacts
 pub mod StillFacts
 pub mod BlockFacts
 pub mod AskedFacts
+pub mod FillingFacts
+pub mod PartFacts
+pub mod TakeFacts

@@ -148,19 +148,25 @@ same-read v w i part reader version schema there now same = record {
 one_more : (cap r s f g : ℕ) → s ≡ r + min 1 (cap - r) → g + r ≡ f + s → r ≤ f → (more : ℕ) → min (more + g) cap ≡ min (more + f) cap + min 1 (cap - min (more + f) cap)
 one_more cap r s f g counts sums least more = omega (arith, counts, sums, least)
 
+ok_err : {T : Type 0} {x : T} → Path (Result T ReadFault) (Ok x) (Err read.StoreFault) → ⊥
+ok_err e = cc
+
+err_same : {T : Type 0} (a b : ReadFault) → Path (Result T ReadFault) (Err a) (Err b) → a ≡ b
+err_same a b e = cc
+
 pub counted-once : {T : Type 0} (old : List PartView) (i : ℕ) (part : PartView) (reader : ReaderView) (result : Result T ReadFault) → slice_get old i ≡ Some part
     → Reading 1 part.reader reader result → ReadsCause (fault_count old) (fault_count (slice_set old i (read_by reader part))) result
 counted-once old i part reader (Ok x) there h =
     let sums = faults-set i (read_by reader part) old i part there in
     let total = sums.0 in
     let same = h.unfailed in
-    record { well = λ n. omega arith; failed = λ e. absurd e }
+    record { well = λ n. omega arith; failed = λ e. absurd (ok_err e) }
 counted-once old i part reader (Err e) there h =
     let sums = faults-set i (read_by reader part) old i part there in
     let total = sums.0 in
     record {
-      well = λ n. let same = h.well n in omega arith;
-      failed = λ is more. one_more (2 ^ 64 - 1) part.reader.faults reader.faults (fault_count old) (fault_count (slice_set old i (read_by reader part))) (h.failed is) total sums.1 more;
+      well = λ n. let same = h.well (λ f. n (ap (λ (x : ReadFault). Err x) f)) in omega arith;
+      failed = λ is more. one_more (2 ^ 64 - 1) part.reader.faults reader.faults (fault_count old) (fault_count (slice_set old i (read_by reader part))) (h.failed (err_same e read.StoreFault is)) total sums.1 more;
     }
 
 pub blocks-read : (old : List PartView) (i b : ℕ) (part : PartView) (reader : ReaderView) (file : ℕ) → slice_get old i ≡ Some part → part.number ≡ file

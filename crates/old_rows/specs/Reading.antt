@@ -20,7 +20,7 @@ use Rattle.snapshot_scan.specs.Scans.{IsBlockDamage}
 use Rattle.snapshot_scan.specs.Snapshots.{SnapshotView, fault_count}
 use Rattle.partial_loads.specs.declared.folds.Folded.{Folded}
 use Rattle.rowsets.specs.Indexing.{CodeMove}
-use Rattle.old_rows.specs.Wanted.{AreWanted, Block, BlocksRise, asked, block_of, blocks_in}
+use Rattle.old_rows.specs.Wanted.{AreWanted, Block, BlocksRise, asked, block_of, blocks_in, is_of}
 use Rattle.old_rows.specs.declared.wanted.Wanted.{Wanted}
 
 -- ---- what a snapshot tells
@@ -63,12 +63,13 @@ pub record IsOldRow (v : SnapshotView) (key row : List Value) : Type 0 where
 abbrev pub Olds : Type 0
 Olds = List (Option (List Value))
 
--- Each key has one old row or none. Those that there are are the keys' rows, and each wanted one is there.
+-- Each key has one old row or none. Those that there are are the keys' rows, and just the wanted ones are there.
 pub record AreFilled (v : SnapshotView) (keys : List Folded) (done : List Wanted) (olds : Olds) : Type 0 where
   pub long : length olds ≡ length keys
   pub good : (i : ℕ) (f : Folded) (row : List Value) → slice_get keys i ≡ Some f → slice_get olds i ≡ Some (Some row)
       → IsOldRow v f.key row
   pub full : AllByRecursion (λ w. (row : List Value) × (slice_get olds w.key ≡ Some (Some row))) done
+  pub only : (i : ℕ) (row : List Value) → slice_get olds i ≡ Some (Some row) → list_any (is_of i) done ≡ true
 
 -- these keys are there
 abbrev pub HaveKeys : List Folded → List Wanted → Type 0
@@ -131,6 +132,8 @@ pub record AreOldRows (v : SnapshotView) (keys : List Folded) (located : List Co
       → IsOldRow v f.key row
   pub all : (i : ℕ) (f : Folded) (e : CodeMove) (p : Place) → slice_get keys i ≡ Some f → slice_get located i ≡ Some e
       → asked f e ≡ Some p → (row : List Value) × (slice_get olds i ≡ Some (Some row))
+  pub only : (i : ℕ) (f : Folded) (e : CodeMove) (row : List Value) → slice_get keys i ≡ Some f → slice_get located i ≡ Some e
+      → slice_get olds i ≡ Some (Some row) → (p : Place) × (asked f e ≡ Some p)
 
 -- one of the rows that are asked for isn't there, or its block is damaged
 pub record TellsDamage (v : SnapshotView) (keys : List Folded) (located : List CodeMove) (d : Damaged) : Type 0 where

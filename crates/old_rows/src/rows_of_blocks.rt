@@ -1,4 +1,6 @@
-ghost use Rattle.std.specs.Prelude.{◌≡◌, ◌↔◌, All, IfErr, IfOk, IsTrue, OnOk, length};
+ghost use Rattle.std.specs.Prelude.{◌≡◌, All, IfErr, IfOk, IsTrue, OnOk, length};
+ghost use Rattle.std.specs.Ordering.{eq_by_cmp};
+ghost use Rattle.pk_values.specs.Order.{key_cmp};
 ghost use Rattle.pk_values.specs.Schemas.{fits_row, key_of};
 ghost use Rattle.old_rows.specs.Reading.{HaveKeys, index_damage};
 ghost use Rattle.old_rows.specs.Taking.{FillsMore, IsMissing, IsTaken, MayMiss};
@@ -24,10 +26,12 @@ pub fn astray() -> ReadFault
 /// Whether a row has a key.
 pub fn has_key(schema: &Schema, row: &Row, key: &Key) -> bool
     requires { IsTrue (fits_row schema.now row.now) }
-    ensures { IsTrue result ↔ (key_of schema.now row.now ≡ key.now) }
+    ensures { result ≡ eq_by_cmp key_cmp (key_of schema.now row.now) key.now }
 {
     let keys = schema.keys() as usize;
-    row.cells[..keys] == key.cells[..]
+    let there = &row.cells[..keys];
+    let wanted = &key.cells[..];
+    there.cmp(&wanted).is_eq()
 }
 
 // The row of a key among those of a block, where a live one of its stands in this place of the file.

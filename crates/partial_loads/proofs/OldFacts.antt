@@ -25,7 +25,7 @@ use Rattle.partial_loads.specs.Folds.{apply, change_at, overlays}
 use Rattle.partial_loads.specs.Folded.{HasCode, folded_keys, rise_strictly}
 use Rattle.partial_loads.specs.Lines.{IsShortKey}
 use Rattle.partial_loads.specs.Making.{HaveChanges, made_rows}
-use Rattle.partial_loads.specs.Olds.{AreOlds, AreOldsOf, MadeRowsFit, OldsHaveMap, OldsMakeRows, Row, made_of, map_of}
+use Rattle.partial_loads.specs.Olds.{AreAllOf, AreOlds, AreOldsOf, MadeRowsFit, OldsHaveMap, OldsMakeRows, Row, made_of, map_of}
 use Rattle.partial_loads.proofs.FoldFacts.{load_is_changes, old_row_unasked}
 use Rattle.partial_loads.proofs.FoldedFacts.{not-among, skip-first}
 use Rattle.partial_loads.proofs.MakeFacts.{folded_have_changes}
@@ -161,12 +161,12 @@ not-there (f ∷ fs) (o ∷ os) k h = go o (eq_by_cmp key_cmp k f.key) refl h (n
     go (Some row) false e h more = get-insert key_total (map_of fs os) f.key row k ∙ ap (λ t. cond t (Some row) (get (map_of fs os) k)) e ∙ more h
 
 -- a map that has the same at all keys that are named
-others-same : (m n : Rows) (fs : List Folded) (os : List (Option Row)) → ((k : List Value) → is_among (folded_keys fs) k ≡ true → get n k ≡ get m k) → AreOldsOf m fs os → AreOldsOf n fs os
+others-same : (m n : Rows) (fs : List Folded) (os : List (Option Row)) → ((k : List Value) → is_among (folded_keys fs) k ≡ true → get n k ≡ get m k) → AreAllOf m fs os → AreAllOf n fs os
 others-same m n [] [] same h = tt
 others-same m n [] (o ∷ os) same h = h
 others-same m n (f ∷ fs) [] same h = h
 others-same m n (f ∷ fs) (o ∷ os) same h = (
-  λ asks. h.0 asks ∙ sym (same f.key (ap (λ t. t || is_among (folded_keys fs) f.key) (itself f.key))),
+  h.0 ∙ sym (same f.key (ap (λ t. t || is_among (folded_keys fs) f.key) (itself f.key))),
   others-same m n fs os (λ k among. same k (or_true (eq_by_cmp key_cmp k f.key) (is_among (folded_keys fs) k) among)) h.1,
 )
   where
@@ -178,16 +178,16 @@ tail-rises : (k : List Value) (ks : List (List Value)) → T (rise_strictly (k �
 tail-rises k [] t = tt
 tail-rises k (j ∷ ks) t = run.second (is_lt (key_cmp k j)) (rise_strictly (j ∷ ks)) t
 
-of_map : (fs : List Folded) (os : List (Option Row)) (s : Layout) → T (rise_strictly (folded_keys fs)) → AreOlds s fs os → AreOldsOf (map_of fs os) fs os
+of_map : (fs : List Folded) (os : List (Option Row)) (s : Layout) → T (rise_strictly (folded_keys fs)) → AreOlds s fs os → AreAllOf (map_of fs os) fs os
 of_map [] [] s rise h = tt
 of_map [] (o ∷ os) s rise h = h
 of_map (f ∷ fs) [] s rise h = h
 of_map (f ∷ fs) (None ∷ os) s rise h = (
-  λ asks. sym (not-there fs os f.key (not-among f.key (folded_keys fs) rise)),
+  sym (not-there fs os f.key (not-among f.key (folded_keys fs) rise)),
   of_map fs os s (tail-rises f.key (folded_keys fs) rise) h.1,
 )
 of_map (f ∷ fs) (Some row ∷ os) s rise h = (
-  λ asks. sym (get-insert key_total (map_of fs os) f.key row f.key ∙ ap (λ t. cond t (Some row) (get (map_of fs os) f.key)) (itself f.key)),
+  sym (get-insert key_total (map_of fs os) f.key row f.key ∙ ap (λ t. cond t (Some row) (get (map_of fs os) f.key)) (itself f.key)),
   others-same (map_of fs os) (insert (map_of fs os) f.key row) fs os other (of_map fs os s (tail-rises f.key (folded_keys fs) rise) h.1),
 )
   where
@@ -214,5 +214,13 @@ keys-first s (f ∷ fs) (Some old ∷ os) h k row is =
     go more true e is = ap (key_of s) (sym (some_same old row is)) ∙ h.0.1 ∙ sym (tells_apart key_exact k f.key e)
     go more false e is = more is
 
+of_all : (m : Rows) (fs : List Folded) (os : List (Option Row)) → AreAllOf m fs os → AreOldsOf m fs os
+of_all m [] [] h = tt
+of_all m [] (o ∷ os) h = h
+of_all m (f ∷ fs) [] h = h
+of_all m (f ∷ fs) (o ∷ os) h = (λ asks. h.0, of_all m fs os h.1)
+
 pub olds_have_map : OldsHaveMap
-olds_have_map s load folded olds are h = (keys-first s folded olds h, of_map folded olds s are.rise h)
+olds_have_map s load folded olds are h =
+    let all = of_map folded olds s are.rise h in
+    (keys-first s folded olds h, of_all (map_of folded olds) folded olds all, all)

@@ -36,6 +36,13 @@ AreOldsOf m [] (o ∷ os) = ⊥
 AreOldsOf m (f ∷ fs) [] = ⊥
 AreOldsOf m (f ∷ fs) (o ∷ os) = (overlays f.change ≡ true → o ≡ get m f.key) × AreOldsOf m fs os
 
+-- each key has the row of the map, or none
+abbrev pub AreAllOf : Rows → List Folded → List (Option Row) → Type 0
+AreAllOf m [] [] = ⊤
+AreAllOf m [] (o ∷ os) = ⊥
+AreAllOf m (f ∷ fs) [] = ⊥
+AreAllOf m (f ∷ fs) (o ∷ os) = (o ≡ get m f.key) × AreAllOf m fs os
+
 -- What is made of them fits, and its keys rise.
 abbrev pub MadeRowsFit : Type 0
 MadeRowsFit = (s : Layout) (load : Load) (folded : List Folded) (olds : List (Option Row))
@@ -60,3 +67,4 @@ abbrev pub OldsHaveMap : Type 0
 OldsHaveMap = (s : Layout) (load : Load) (folded : List Folded) (olds : List (Option Row))
     → AreFolded s load.given None load.ops folded → AreOlds s folded olds
     → KeysStandFirst s (map_of folded olds) × AreOldsOf (map_of folded olds) folded olds
+    × AreAllOf (map_of folded olds) folded olds
