@@ -5,7 +5,7 @@ ghost use Rattle.segment_read.specs.Rows.{IsRowsDamage};
 ghost use Rattle.rowsets.specs.Scans.{alive};
 ghost use Rattle.rowsets.specs.Scans as scans;
 ghost use Rattle.pk_values.specs.Schemas.{fits_row, Layout};
-ghost use Rattle.snapshot_scan.specs.Parts.{AreLive, AreLiveIn, AreWrittenIn, IsAllWhole, IsPart, IsWhole, read_by, seen, ToldOfNoPiece};
+ghost use Rattle.snapshot_scan.specs.Parts.{AreLive, AreLiveIn, AreWrittenIn, IsAllWhole, IsBlockOf, IsPart, IsWhole, read_by, seen, ToldOfNoPiece};
 ghost use Rattle.snapshot_scan.specs.Scans.{HasLeft, HasLive, IsBlockDamage, IsCursor, ReadOn};
 
 use crate::live::{live_rows, next_live};
@@ -72,6 +72,7 @@ pub fn written_block<R: SealedReader>(
     requires part { IsPart schema.now (seen R.view part.old) }
     requires there { b < length part.old.0.footer.blocks }
     ensures rows { IfOk result (λ rows. AreWrittenIn schema.now (seen R.view part.old) b rows.items) }
+    ensures bytes { IfOk result (λ rows. IsBlockOf schema.now (seen R.view part.old) b rows.items) }
     ensures damaged { IfErr result (λ e. OnDamage e (IsBlockDamage schema.now (seen R.view part.old) b)) }
     ensures intact { IfErr result (ToldOfNoPiece schema.now (seen R.view part.old)) }
     ensures fit { IfOk result (λ rows. All (λ row. IsTrue (fits_row schema.now row)) rows.items) }

@@ -7,7 +7,7 @@ ghost use Rattle.dev_traits.specs.View.{Calm};
 ghost use Rattle.segment_read.specs.Reads.{OnDamage, Reading};
 ghost use Rattle.segment_read.specs.Rows.{IsRowsDamage};
 ghost use Rattle.rowsets.specs.Scans as scans;
-ghost use Rattle.snapshot_scan.specs.Parts.{AreLive, AreLiveIn, AreWrittenIn, IsAllWhole, IsWhole, seen, ToldOfNoPiece};
+ghost use Rattle.snapshot_scan.specs.Parts.{AreLive, AreLiveIn, AreWrittenIn, IsAllWhole, IsBlockOf, IsWhole, seen, ToldOfNoPiece};
 ghost use Rattle.snapshot_scan.specs.Scans.{HasLeft, HasLive, IsBlockDamage, IsCursor, ReadOn};
 ghost use Rattle.snapshot_scan.specs.Snapshots.{AreParts, fault_count, IsSnapshotOf, live_count, ReadsPart};
 
@@ -184,6 +184,10 @@ impl<R: SealedReader> Snapshot<R> {
         requires block { IfSome (slice_get self.old.parts i) (λ part. b < length part.footer.blocks) }
         ensures rows { IfOk result (λ rows. IfSome (slice_get self.old.parts i) (λ part.
             AreWrittenIn self.old.schema part b rows.items)) }
+
+        // Rows are given of a block alone whose bytes are those of these rows.
+        ensures bytes { IfOk result (λ rows. IfSome (slice_get self.old.parts i) (λ part.
+            IsBlockOf self.old.schema part b rows.items)) }
         ensures fit { IfOk result (λ rows. All (λ row. IsTrue (fits_row self.old.schema row)) rows.items) }
         ensures damaged { IfErr result (λ e. IfSome (slice_get self.old.parts i) (λ part.
             OnDamage e (IsBlockDamage self.old.schema part b))) }

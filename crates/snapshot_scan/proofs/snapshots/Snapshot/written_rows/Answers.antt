@@ -5,7 +5,7 @@ use Rattle.segment_read.specs.Blocks.{BlockShown}
 use Rattle.segment_read.specs.Reads.{block_in, IsDamage, OfBlock, OfFile, OnDamage, Reading}
 use Rattle.segment_read.proofs.Scanning.{if_ok_so}
 use Rattle.rowsets.specs.Scans.{Piece}
-use Rattle.snapshot_scan.specs.Parts.{IsPieceOf, block_at, seen}
+use Rattle.snapshot_scan.specs.Parts.{IsBlockOf, IsPieceOf, block_at, seen}
 use Rattle.snapshot_scan.specs.Snapshots.{ReadsPart, SnapshotView}
 use Rattle.snapshot_scan.proofs.SnapFacts.{from_at, if_at, if_err_so, part_at, part_is, parts_are, reads_part}
 use Rattle.snapshot_scan.proofs.snapshots.Snapshot.written_rows.Goals as goal
@@ -31,6 +31,12 @@ returns-clause-rows g c =
     subst (λ (v : SnapshotView). IfOk c.written_block.result (λ live. IfSome (slice_get v.parts c.args.i) (λ part. (piece : Piece) → IsPieceOf v.schema part piece → live.items ≡ block_at c.args.b piece.rows))) c.self.view_is
     (if_ok_so c.written_block.result _ _ (λ live are. if_at (slice_get (map (seen g.R.SealedReader.view) c.self.inside.parts.items) c.args.i) (seen g.R.SealedReader.view c.index_mut.result.now) (λ part. (piece : Piece) → IsPieceOf c.self.inside.schema part piece → live.items ≡ block_at c.args.b piece.rows) (part_at g.R.SealedReader.view c.self.inside.parts.items c.args.i c.index_mut.result.now
     (subst (λ (v : SnapshotView). c.args.i < length v.parts) (sym c.self.view_is) c.requires.there) c.index_mut.ensures.value) are) c.written_block.ensures.rows)
+
+pub returns-clause-bytes : goal.returns-clause-bytes
+returns-clause-bytes g c =
+    subst (λ (v : SnapshotView). IfOk c.written_block.result (λ live. IfSome (slice_get v.parts c.args.i) (λ part. IsBlockOf v.schema part c.args.b live.items))) c.self.view_is
+    (if_ok_so c.written_block.result _ _ (λ live are. if_at (slice_get (map (seen g.R.SealedReader.view) c.self.inside.parts.items) c.args.i) (seen g.R.SealedReader.view c.index_mut.result.now) (λ part. IsBlockOf c.self.inside.schema part c.args.b live.items) (part_at g.R.SealedReader.view c.self.inside.parts.items c.args.i c.index_mut.result.now
+    (subst (λ (v : SnapshotView). c.args.i < length v.parts) (sym c.self.view_is) c.requires.there) c.index_mut.ensures.value) are) c.written_block.ensures.bytes)
 
 pub returns-clause-damaged : goal.returns-clause-damaged
 returns-clause-damaged g c =
