@@ -9,13 +9,13 @@ use Rattle.rowsets.specs.Indexing.{CodeMove}
 use Rattle.snapshot_scan.specs.Parts.{PartView}
 use Rattle.snapshot_scan.specs.Snapshots.{SnapshotView}
 use Rattle.partial_loads.specs.declared.folds.Folded.{Folded}
-use Rattle.old_rows.specs.Reading.{AreFilled, AreOldRows, HasNone, HaveKeys, Olds, ReadBlocks, ReadsAsked}
+use Rattle.old_rows.specs.Reading.{AreFilled, AreOldsRead, HasNoOlds, HaveKeys, Olds, ReadBlocks, ReadsAsked}
 use Rattle.old_rows.specs.Wanted.{AreWanted, Block, IsWanted, PlacesInOrder, asked, block_of, is_of, place_wanted, runs}
 use Rattle.old_rows.specs.declared.wanted.Wanted.{Wanted}
 use Rattle.old_rows.proofs.RunFacts.{runs-all, runs-rise}
 
-none_some : {X : Type 0} (x : X) → None ≡ Some x → ⊥
-none_some x e = cc
+some_same : {X : Type 0} (x y : X) → Some x ≡ Some y → x ≡ y
+some_same x y e = cc
 
 within : {X : Type 0} (xs : List X) (i : ℕ) (x : X) → slice_get xs i ≡ Some x → i < length xs
 within [] i x h = cc
@@ -27,8 +27,8 @@ have-keys keys located n wanted are i d lt =
     let one = are.each i d lt in
     within keys (get_or wanted i d).key one.key one.there
 
-pub filled-none : (v : SnapshotView) (keys : List Folded) (olds : Olds) → HasNone (length keys) olds → AreFilled v keys [] olds
-filled-none v keys olds none = record { long = none.long; good = λ i f row has got. absurd (none.none i row got); full = tt; only = λ i row got. absurd (none.none i row got) }
+pub filled-none : (v : SnapshotView) (keys : List Folded) (olds : Olds) → HasNoOlds (length keys) olds → AreFilled v keys [] olds
+filled-none v keys olds none = record { long = none.long; good = λ i f row has got. absurd (none.none i row got); full = tt }
 
 any-there : (olds : Olds) (wanted : List Wanted) (i : ℕ) → AllByRecursion (λ w. (row : List Value) × (slice_get olds w.key ≡ Some (Some row))) wanted
     → list_any (is_of i) wanted ≡ true → (row : List Value) × (slice_get olds i ≡ Some (Some row))
@@ -40,33 +40,22 @@ any-there olds (w ∷ ws) i full h = go (w.key == i) refl h (any-there olds ws i
     go true e h more = (full.0.0, ap (slice_get olds) (sym (eqb-true w.key i e)) ∙ full.0.1)
     go false e h more = more h
 
-any-wanted : (keys : List Folded) (located : List CodeMove) (wanted : List Wanted) (i : ℕ) (f : Folded) (e : CodeMove) → All (IsWanted keys located) wanted → list_any (is_of i) wanted ≡ true
-    → slice_get keys i ≡ Some f → slice_get located i ≡ Some e → (p : Place) × (asked f e ≡ Some p)
-any-wanted keys located [] i f e each h there at = cc
-any-wanted keys located (w ∷ ws) i f e each h there at =
-    go (w.key == i) refl h (λ more. any-wanted keys located ws i f e (λ j d lt. each (suc j) d (omega arith)) more there at)
-  where
-    some_same : {X : Type 0} (x y : X) → Some x ≡ Some y → x ≡ y
-    some_same x y e = cc
-
-    one : IsWanted keys located w
-    one = each 0 w (omega arith)
-
-    go : (t : Truth) → (w.key == i) ≡ t → (t || list_any (is_of i) ws) ≡ true → (list_any (is_of i) ws ≡ true → (p : Place) × (asked f e ≡ Some p)) → (p : Place) × (asked f e ≡ Some p)
-    go true e' h more =
-        let here : w.key ≡ i = eqb-true w.key i e' in
-        let key : one.key ≡ f = some_same one.key f (sym one.there ∙ ap (slice_get keys) here ∙ there) in
-        let entry : one.entry ≡ e = some_same one.entry e (sym one.at ∙ ap (slice_get located) here ∙ at) in
-        (w.place, (λ j. asked (sym key j) (sym entry j)) ∙ one.asks)
-    go false e' h more = more h
+wanted-at : (keys : List Folded) (located : List CodeMove) (ws : List Wanted) (i : ℕ) (w : Wanted) → All (IsWanted keys located) ws → slice_get ws i ≡ Some w → IsWanted keys located w
+wanted-at keys located [] i w h e = cc
+wanted-at keys located (x ∷ ws) zero w h e = subst (IsWanted keys located) (some_same x w e) (h 0 x (omega arith))
+wanted-at keys located (x ∷ ws) (suc i) w h e = wanted-at keys located ws i w (λ j d lt. h (suc j) d (omega arith)) e
 
 pub olds-are : (v : SnapshotView) (keys : List Folded) (located : List CodeMove) (wanted : List Wanted) (olds : Olds) → AreWanted keys located (length keys) wanted
-    → AreFilled v keys wanted olds → AreOldRows v keys located olds
+    → AreFilled v keys wanted olds → AreOldsRead v keys located olds
 olds-are v keys located wanted olds are filled = record {
   long = filled.long;
-  good = filled.good;
+  good = λ i f e row there at got.
+      let had = filled.good i f row there got in
+      let one = wanted-at keys located wanted had.at had.wanted are.each had.among in
+      let key : one.key ≡ f = some_same one.key f (sym one.there ∙ ap (slice_get keys) had.of_key ∙ there) in
+      let entry : one.entry ≡ e = some_same one.entry e (sym one.at ∙ ap (slice_get located) had.of_key ∙ at) in
+      (had.wanted.place, (λ j. asked (sym key j) (sym entry j)) ∙ one.asks, had.old);
   all = λ i f e p there at asks. any-there olds wanted i filled.full (are.all i f e p (within keys i f there) there at asks);
-  only = λ i f e row there at got. any-wanted keys located wanted i f e are.each (filled.only i row got) there at;
 }
 
 pub reads-asked : (keys : List Folded) (located : List CodeMove) (wanted : List Wanted) (old new : List PartView) → AreWanted keys located (length keys) wanted

@@ -1,5 +1,5 @@
 -- A row of a block is that of its file, and a live one of the snapshot.
-use Rattle.std.proofs.Common.{◌≡◌, ◌≢◌, refl, ap, sym, subst, ◌∙◌, ℕ, zero, suc, ◌+◌, ◌*◌, ◌/◌, ◌%◌, ◌<◌, ◌≤◌, List, [], ◌∷◌, map, length, take, drop, Option, Some, None, is_some, Bool as Truth, true, false, ◌||◌, ◌==◌, cond, slice_get, arith}
+use Rattle.std.proofs.Common.{◌≡◌, ◌≢◌, inl, inr, refl, ap, sym, subst, ◌∙◌, ℕ, zero, suc, ◌+◌, ◌*◌, ◌/◌, ◌%◌, ◌<◌, ◌≤◌, List, [], ◌∷◌, map, length, take, drop, Option, Some, None, is_some, Bool as Truth, true, false, ◌||◌, ◌==◌, cond, slice_get, arith}
 use Rattle.std.specs.List.{list_any, AllByRecursion}
 use Rattle.std.proofs.lemmas.Bool.{eq-eqb, eqb-true}
 use Rattle.dev_traits.specs.declared.faults.Damaged.{Damaged}
@@ -8,12 +8,12 @@ use Rattle.pk_values.specs.declared.cells.Value.{Value}
 use Rattle.index_level0.specs.declared.place.Place.{Place}
 use Rattle.rowsets.specs.Live.{Files, FilesOnce, HasKey, Part, is_dead, live, names}
 use Rattle.rowsets.proofs.LiveFacts.{live-named}
-use Rattle.snapshot_scan.specs.Parts.{AreWrittenIn, IsPieceOf, PartView, block_at}
+use Rattle.snapshot_scan.specs.Parts.{AreWrittenIn, IsBlockOf, IsPieceOf, PartView, block_at}
 use Rattle.snapshot_scan.specs.Snapshots.{SnapshotView}
 use Rattle.snapshot_scan.proofs.PartFacts.{piece_long}
 use Rattle.partial_loads.specs.declared.folds.Folded.{Folded}
 use Rattle.old_rows.specs.PartsByFile.{FindsParts, found_part}
-use Rattle.old_rows.specs.Reading.{AreTold, IsLost, IsOldRow, TellsRows, index_damage, live_at, part_seen}
+use Rattle.old_rows.specs.Reading.{AreTold, IsLost, IsOldRow, IsWrongIn, TellsRows, index_damage, live_at, part_seen}
 use Rattle.old_rows.specs.Taking.{AreGiven, IsNotThere, IsTaken, MissesOne}
 use Rattle.old_rows.specs.Wanted.{Block, block_of}
 use Rattle.old_rows.specs.declared.wanted.Wanted.{Wanted}
@@ -100,20 +100,30 @@ module _ (v : SnapshotView) (i : ℕ) (part : PartView) (there : slice_get v.par
       ∙ ap (cond (list_any (λ r. r == p.row) part.dead) None)
       (sym (in-block b p.row (stored part.number) block) ∙ ap (λ xs. slice_get xs (p.row % 1024)) (sym (are (record { rows = stored part.number; dead = part.dead }) (told-at v.schema stored v.parts i part tells.told there))))
 
-  pub old-row : (p : Place) (key found : List Value) → part.number ≡ p.segment → b ≡ p.row / 1024 → IsTaken v.schema rows part.dead p.row key found → IsOldRow v key found
+  pub old-row : (p : Place) (key found : List Value) → part.number ≡ p.segment → b ≡ p.row / 1024 → IsTaken v.schema rows part.dead p.row key found → IsOldRow v p key found
   old-row p key found file block taken = record {
     fits = taken.fits;
     key_is = taken.key_is;
-    lives = λ stored tells. (p, live-is stored tells p file block ∙ ap (λ t. cond t None (slice_get rows (p.row % 1024))) taken.lives ∙ taken.there);
+    lives = λ stored tells. live-is stored tells p file block ∙ ap (λ t. cond t None (slice_get rows (p.row % 1024))) taken.lives ∙ taken.there;
   }
 
   pub not-there : (stored : Files) → TellsRows v stored → (p : Place) (key : List Value) → part.number ≡ p.segment → b ≡ p.row / 1024 → IsNotThere v.schema rows part.dead p.row key
       → HasKey v.schema (live_at stored v) p key → ⊥
-  not-there stored tells p key file block missing has = go (list_any (λ r. r == p.row) part.dead) refl (sym (live-is stored tells p file block) ∙ has.1)
+  not-there stored tells p key file block missing has = go missing (list_any (λ r. r == p.row) part.dead) refl (sym (live-is stored tells p file block) ∙ has.1)
     where
-      go : (t : Truth) → list_any (λ r. r == p.row) part.dead ≡ t → cond t None (slice_get rows (p.row % 1024)) ≡ Some has.0 → ⊥
-      go true e is = none_some has.0 is
-      go false e is = missing has.0 is e has.2
+      go : IsNotThere v.schema rows part.dead p.row key → (t : Truth) → list_any (λ r. r == p.row) part.dead ≡ t → cond t None (slice_get rows (p.row % 1024)) ≡ Some has.0 → ⊥
+      go gone true e is = none_some has.0 is
+      go (inl dead) false e is = clash (list_any (λ r. r == p.row) part.dead) dead e
+        where
+          clash : (b : Truth) → b ≡ true → b ≡ false → ⊥
+          clash b e f = cc (sym e ∙ f)
+      go (inr other) false e is = other has.0 is has.2
+
+  -- how it shows
+  pub wrong-there : (p : Place) (key : List Value) → b ≡ p.row / 1024 → IsBlockOf v.schema part b rows → IsNotThere v.schema rows part.dead p.row key → IsWrongIn v.schema part p key
+  wrong-there p key block is (inl dead) = inr (inl dead)
+  wrong-there p key block is (inr other) =
+      inr (inr (λ file told mark at. (rows, is file told mark (ap (slice_get part.footer.blocks) block ∙ at), other)))
 
 -- a row past the end of the file
 pub past-end : (v : SnapshotView) (i : ℕ) (part : PartView) → slice_get v.parts i ≡ Some part → (stored : Files) → TellsRows v stored → (p : Place) (key : List Value) → part.number ≡ p.segment → part.footer.rows ≤ p.row → HasKey v.schema (live_at stored v) p key → ⊥
@@ -142,3 +152,8 @@ no-part v found stored finds p key none has =
   where
     none_is : is_some (found_part found p.segment) ≡ true → ⊥
     none_is e = cc (sym e ∙ ap is_some none)
+
+-- no part is of this file
+pub none-of : (v : SnapshotView) (found : _) → FindsParts found v.parts → (file : ℕ) → found_part found file ≡ None
+    → (i : ℕ) (part : PartView) → slice_get v.parts i ≡ Some part → part.number ≡ file → ⊥
+none-of v found finds file none i part there is = cc (sym (ap (λ n. is_some (found_part found n)) (sym is) ∙ finds.all i part there) ∙ ap is_some none)

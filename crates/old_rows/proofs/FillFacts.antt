@@ -1,8 +1,6 @@
 -- Old rows are filled in, one after the other.
 use Rattle.std.proofs.Common.{◌≡◌, ◌≢◌, refl, ap, sym, subst, ◌∙◌, ℕ, zero, suc, ◌+◌, ◌<◌, ◌≤◌, List, [], ◌∷◌, ◌++◌, length, take, Option, Some, None, Bool as Truth, true, false, ◌==◌, ◌||◌, slice_get, slice_set, get_or, arith, append_assoc, length-set}
-use Rattle.std.specs.List.{list_any, AllByRecursion}
-use Rattle.std.proofs.lemmas.List.Folds.{list_any-append}
-use Rattle.old_rows.specs.Wanted.{is_of}
+use Rattle.std.specs.List.{AllByRecursion}
 use Rattle.std.proofs.lemmas.Bool.{eqb-false, eqb-true}
 use Rattle.std.proofs.lemmas.List.{append-nil, take_more}
 use Rattle.pk_values.specs.Schemas.{fits_row, key_of}
@@ -10,7 +8,8 @@ use Rattle.std.specs.Prelude.{IsTrue}
 use Rattle.pk_values.specs.declared.cells.Value.{Value}
 use Rattle.snapshot_scan.specs.Snapshots.{SnapshotView}
 use Rattle.partial_loads.specs.declared.folds.Folded.{Folded}
-use Rattle.old_rows.specs.Reading.{AreFilled, IsOldRow, Olds, SameButCounts, live_at}
+use Rattle.index_level0.specs.declared.place.Place.{Place}
+use Rattle.old_rows.specs.Reading.{AreFilled, IsOldRow, IsWantedRow, Olds, SameButCounts, live_at}
 use Rattle.old_rows.specs.declared.wanted.Wanted.{Wanted}
 use Rattle.old_rows.proofs.StillFacts.{live-same, tells-same}
 
@@ -43,29 +42,23 @@ all-so P Q f (x ∷ xs) h = (f x h.0, all-so P Q f xs h.1)
 abbrev IsThere : Olds → Wanted → Type 0
 IsThere olds w = (row : List Value) × (slice_get olds w.key ≡ Some (Some row))
 
+at-first : (xs : List Wanted) (x y : Wanted) (i : ℕ) → slice_get xs i ≡ Some y → slice_get (xs ++ x ∷ []) i ≡ Some y
+at-first [] x y i h = cc
+at-first (z ∷ xs) x y zero h = h
+at-first (z ∷ xs) x y (suc i) h = at-first xs x y i h
+
+at-last : (xs : List Wanted) (x : Wanted) → slice_get (xs ++ x ∷ []) (length xs) ≡ Some x
+at-last [] x = refl
+at-last (z ∷ xs) x = at-last xs x
+
 pub filled-more : (v : SnapshotView) (keys : List Folded) (done : List Wanted) (olds : Olds) (w : Wanted) (f : Folded) (row : List Value) → AreFilled v keys done olds
-    → w.key < length keys → slice_get keys w.key ≡ Some f → IsOldRow v f.key row → AreFilled v keys (done ++ w ∷ []) (slice_set olds w.key (Some row))
+    → w.key < length keys → slice_get keys w.key ≡ Some f → IsOldRow v w.place f.key row → AreFilled v keys (done ++ w ∷ []) (slice_set olds w.key (Some row))
 filled-more v keys done olds w f row filled lt there old = record {
   long = length-set olds w.key (Some row) ∙ filled.long;
   good = λ i g r has got. go i g r has got (w.key == i) refl;
   full = all-more (IsThere (slice_set olds w.key (Some row))) done w (all-so (IsThere olds) (IsThere (slice_set olds w.key (Some row))) keep done filled.full) (row, set-here olds w.key (Some row) short);
-  only = λ i r got. list_any-append (is_of i) done (w ∷ []) ∙ just i r got (w.key == i) refl;
 }
   where
-    or_left : (a b : Truth) → a ≡ true → (a || b) ≡ true
-    or_left true b h = refl
-    or_left false b h = cc
-
-    or_right : (a b : Truth) → b ≡ true → (a || b) ≡ true
-    or_right true b h = refl
-    or_right false b h = h
-
-    just : (i : ℕ) (r : List Value) → slice_get (slice_set olds w.key (Some row)) i ≡ Some (Some r) → (t : Truth) → (w.key == i) ≡ t
-        → (list_any (is_of i) done || list_any (is_of i) (w ∷ [])) ≡ true
-    just i r got true e = or_right (list_any (is_of i) done) (list_any (is_of i) (w ∷ [])) (ap (λ t. t || false) e)
-    just i r got false e =
-        or_left (list_any (is_of i) done) (list_any (is_of i) (w ∷ [])) (filled.only i r (sym (set-other olds w.key i (Some row) (eqb-false w.key i e)) ∙ got))
-
     short : w.key < length olds
     short = omega (arith, lt, filled.long)
 
@@ -76,26 +69,36 @@ filled-more v keys done olds w f row filled lt there old = record {
         by true e = (row, ap (slice_get (slice_set olds w.key (Some row))) (sym (eqb-true w.key u.key e)) ∙ set-here olds w.key (Some row) short)
         by false e = (h.0, set-other olds w.key u.key (Some row) (eqb-false w.key u.key e) ∙ h.1)
 
-    go : (i : ℕ) (g : Folded) (r : List Value) → slice_get keys i ≡ Some g → slice_get (slice_set olds w.key (Some row)) i ≡ Some (Some r) → (t : Truth) → (w.key == i) ≡ t → IsOldRow v g.key r
+    go : (i : ℕ) (g : Folded) (r : List Value) → slice_get keys i ≡ Some g → slice_get (slice_set olds w.key (Some row)) i ≡ Some (Some r) → (t : Truth) → (w.key == i) ≡ t
+        → IsWantedRow v (done ++ w ∷ []) i g.key r
     go i g r has got true e =
         let here : w.key ≡ i = eqb-true w.key i e in
         let key : f ≡ g = some_same f g (sym there ∙ ap (slice_get keys) here ∙ has) in
         let same : row ≡ r = some_same row r (some_same (Some row) (Some r) (sym (set-here olds w.key (Some row) short) ∙ ap (slice_get (slice_set olds w.key (Some row))) here ∙ got)) in
-        subst (λ k. IsOldRow v k r) (ap (λ (x : Folded). x.key) key) (subst (IsOldRow v f.key) same old)
-    go i g r has got false e = filled.good i g r has (sym (set-other olds w.key i (Some row) (eqb-false w.key i e)) ∙ got)
+        record {
+          wanted = w;
+          at = length done;
+          among = at-last done w;
+          of_key = here;
+          old = subst (λ k. IsOldRow v w.place k r) (ap (λ (x : Folded). x.key) key) (subst (IsOldRow v w.place f.key) same old);
+        }
+    go i g r has got false e =
+        let had = filled.good i g r has (sym (set-other olds w.key i (Some row) (eqb-false w.key i e)) ∙ got) in
+        record { wanted = had.wanted; at = had.at; among = at-first done w had.wanted had.at had.among; of_key = had.of_key; old = had.old }
 
 -- an old row of a snapshot is one of the same snapshot, whatever was counted
-old-same : (v w : SnapshotView) (key row : List Value) → SameButCounts v w → IsOldRow w key row → IsOldRow v key row
-old-same v w key row same old = record {
+old-same : (v w : SnapshotView) (p : Place) (key row : List Value) → SameButCounts v w → IsOldRow w p key row → IsOldRow v p key row
+old-same v w p key row same old = record {
   fits = subst (λ s. IsTrue (fits_row s row)) same.schema old.fits;
   key_is = ap (λ s. key_of s row) (sym same.schema) ∙ old.key_is;
-  lives = λ stored tells. let found = old.lives stored (tells-same v w stored same tells) in (found.0, ap (λ l. l found.0) (sym (live-same stored v w same)) ∙ found.1);
+  lives = λ stored tells. ap (λ l. l p) (sym (live-same stored v w same)) ∙ old.lives stored (tells-same v w stored same tells);
 }
 
 pub filled-same : (v w : SnapshotView) (keys : List Folded) (done : List Wanted) (olds : Olds) → SameButCounts v w → AreFilled w keys done olds → AreFilled v keys done olds
 filled-same v w keys done olds same filled = record {
   long = filled.long;
-  good = λ i f row has got. old-same v w f.key row same (filled.good i f row has got);
+  good = λ i f row has got.
+      let had = filled.good i f row has got in
+      record { wanted = had.wanted; at = had.at; among = had.among; of_key = had.of_key; old = old-same v w had.wanted.place f.key row same had.old };
   full = filled.full;
-  only = filled.only;
 }

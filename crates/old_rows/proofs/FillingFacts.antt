@@ -7,13 +7,14 @@ use Rattle.dev_traits.specs.declared.faults.ReadFault.{ReadFault}
 use Rattle.dev_traits.specs.declared.faults.ReadFault.TheVariants as read
 use Rattle.pk_values.specs.Schemas.{Layout, key_of}
 use Rattle.pk_values.specs.declared.cells.Value.{Value}
+use Rattle.index_level0.specs.declared.place.Place.{Place}
 use Rattle.rowsets.specs.Live.{Files, HasKey}
 use Rattle.rowsets.specs.Scans.{Piece}
 use Rattle.snapshot_scan.specs.Parts.{IsPieceOf, PartView}
 use Rattle.snapshot_scan.specs.Scans.{IsBlockDamage}
 use Rattle.snapshot_scan.specs.Snapshots.{SnapshotView, fault_count}
 use Rattle.partial_loads.specs.declared.folds.Folded.{Folded}
-use Rattle.old_rows.specs.Reading.{IsBroken, IsLost, IsReadingDamage, ReadBlocks, ReadsCause, SameButCounts, TellsRows, live_at, still}
+use Rattle.old_rows.specs.Reading.{IsBroken, IsLost, IsReadingDamage, IsWrongIn, IsWrongPlace, ReadBlocks, ReadsCause, SameButCounts, TellsRows, live_at, still}
 use Rattle.old_rows.specs.Wanted.{Block, blocks_in, block_of, place_wanted, runs}
 use Rattle.old_rows.specs.declared.wanted.Wanted.{Wanted}
 use Rattle.old_rows.proofs.StillFacts.{live-same, numbers-same, part-before, same-back, tells-same}
@@ -92,6 +93,28 @@ in-take (suc n) i [] w h = h
 in-take (suc n) zero (x ∷ ws) w h = h
 in-take (suc n) (suc i) (x ∷ ws) w h = in-take n i ws w h
 
+-- a place is wrong whatever was counted
+wrong-still : (s : Layout) (a b : PartView) (p : Place) (key : List Value) → still a ≡ still b → IsWrongIn s b p key → IsWrongIn s a p key
+wrong-still s a b p key e h = to a (subst (λ (q : PartView). IsWrongIn s q p key) (sym e) (from b h))
+  where
+    from : (q : PartView) → IsWrongIn s q p key → IsWrongIn s (still q) p key
+    from q (inl past) = inl past
+    from q (inr (inl dead)) = inr (inl dead)
+    from q (inr (inr none)) = inr (inr none)
+
+    to : (q : PartView) → IsWrongIn s (still q) p key → IsWrongIn s q p key
+    to q (inl past) = inl past
+    to q (inr (inl dead)) = inr (inl dead)
+    to q (inr (inr none)) = inr (inr none)
+
+wrong-same : (v w : SnapshotView) (p : Place) (key : List Value) → SameButCounts v w → IsWrongPlace w p key → IsWrongPlace v p key
+wrong-same v w p key same (inl none) = inl (λ i part there number.
+    let now = part-before w.parts v.parts i part (sym same.parts) there in
+    none i now.0 now.1 (numbers-same now.0 part now.2 ∙ number))
+wrong-same v w p key same (inr at) =
+    let was = part-before v.parts w.parts at.0 at.1 same.parts at.2 in
+    inr (at.0, was.0, was.1, numbers-same was.0 at.1 was.2 ∙ at.3, subst (λ s. IsWrongIn s was.0 p key) same.schema (wrong-still w.schema was.0 at.1 p key was.2 at.4))
+
 pub damage-of-all : (v w : SnapshotView) (keys : List Folded) (wanted run : List Wanted) (at count : ℕ) (d : Damaged) → SameButCounts v w → run ≡ take count (drop at wanted)
     → IsReadingDamage w keys run d → IsReadingDamage v keys wanted d
 damage-of-all v w keys wanted run at count d same is (inl lost) = inl (record {
@@ -101,6 +124,7 @@ damage-of-all v w keys wanted run at count d same is (inl lost) = inl (record {
   among = in-drop at lost.at wanted lost.row (in-take count lost.at (drop at wanted) lost.row (ap (λ ws. slice_get ws lost.at) (sym is) ∙ lost.among));
   key = lost.key;
   is = lost.is;
+  wrong = wrong-same v w lost.row.place lost.key.key same lost.wrong;
   lost = λ stored tells has. lost.lost stored (tells-same v w stored same tells)
       (has.0, ap (λ l. l lost.row.place) (live-same stored v w same) ∙ has.1, ap (λ s. key_of s has.0) same.schema ∙ has.2);
 })

@@ -1,11 +1,12 @@
 -- Parts are put in one after the other, by the numbers of their files.
-use Rattle.std.proofs.Common.{◌≡◌, ◌⊎◌, inl, inr, refl, ap, sym, subst, ◌∙◌, ℕ, ◌+◌, ◌<◌, List, Option, Some, None, Bool as Truth, true, false, ◌==◌, cond, is_some, nat_lt, slice_get, arith}
+use Rattle.std.proofs.Common.{◌≡◌, ◌⊎◌, inl, inr, refl, ap, sym, subst, ◌∙◌, ℕ, zero, suc, ◌+◌, ◌<◌, ◌≤◌, List, [], ◌∷◌, length, IfSome, Option, Some, None, Bool as Truth, true, false, ◌==◌, cond, is_some, nat_lt, slice_get, arith}
 use Rattle.std.specs.Ordering.{is_eq, nat_cmp}
 use Rattle.std.specs.declared.cmp.Ordering.{Ordering}
 use Rattle.std.specs.declared.cmp.Ordering.TheVariants.{Less, Equal, Greater}
 use Rattle.std.proofs.lemmas.Bool.{cases_order, eq-eqb, eqb-true, ltb-true}
 use Rattle.snapshot_scan.specs.Parts.{PartView}
-use Rattle.old_rows.specs.PartsByFile.{IsPartOfFile}
+use Rattle.old_rows.specs.PartsByFile.{FindsParts, IsPartOfFile, found_part}
+use Rattle.old_rows.specs.declared.parts_by_file.PartsByFile.{PartsByFile}
 
 -- of the first parts
 pub record FindsFirst (found : ℕ → Option ℕ) (n : ℕ) (parts : List PartView) : Type 0 where
@@ -59,3 +60,22 @@ finds-more old new n number parts part there is put finds = record {
         clash b e f = cc (sym e ∙ f)
     all i p false e h (inr (inl below)) lt = finds.all i p below h
     all i p false e h (inr (inr above)) lt = absurd (omega arith)
+
+within : (parts : List PartView) (i : ℕ) (part : PartView) → slice_get parts i ≡ Some part → i < length parts
+within [] i part h = cc
+within (p ∷ ps) zero part h = omega arith
+within (p ∷ ps) (suc i) part h = let more = within ps i part h in omega arith
+
+pub finds-next : (old new : ℕ → Option ℕ) (n number : ℕ) (parts : List PartView) → IfSome (slice_get parts n) (λ part. number ≡ part.number)
+    → ((file : ℕ) → new file ≡ cond (is_eq (nat_cmp number file)) (Some n) (old file)) → n < length parts → FindsFirst old n parts → FindsFirst new (n + 1) parts
+finds-next old new n number parts is put lt finds =
+    let part = got parts n lt in
+    finds-more old new n number parts part.0 part.1 (subst (λ o. IfSome o (λ p. number ≡ p.number)) part.1 is) put finds
+  where
+    got : (ps : List PartView) (i : ℕ) → i < length ps → (part : PartView) × (slice_get ps i ≡ Some part)
+    got [] i lt = absurd (omega arith)
+    got (p ∷ ps) zero lt = (p, refl)
+    got (p ∷ ps) (suc i) lt = got ps i (omega arith)
+
+pub all-found : (found : PartsByFile) (parts : List PartView) (n : ℕ) → length parts ≤ n → FindsFirst (found_part found) n parts → FindsParts found parts
+all-found found parts n le finds = record { only = finds.only; all = λ i part h. finds.all i part (let lt = within parts i part h in omega arith) h }

@@ -170,9 +170,36 @@ is-run (suc n) (v ∷ vs) some most one next = record {
       ∙ ap (λ b. b ∷ runs (map place_wanted (drop n vs))) (ap (λ us. block_of (get_or us 0 v).place) e);
 }
 
+abbrev Zero : Wanted
+Zero = record { place = record { segment = 0; row = 0 }; key = 0 }
+
+first-is : (wanted : List Wanted) (w : Wanted) (ws : List Wanted) → wanted ≡ w ∷ ws → get_or wanted 0 Zero ≡ w
+first-is wanted w ws e = ap (λ us. get_or us 0 Zero) e
+
 -- one row more in the block of the first
-pub run-more : (count : ℕ) (wanted : List Wanted) (w v : Wanted) → count < length wanted → get_or wanted count v ≡ v → same_block w.place v.place ≡ true
-    → All (λ u. block_of u.place ≡ block_of w.place) (take count wanted) → All (λ u. block_of u.place ≡ block_of w.place) (take (count + 1) wanted)
-run-more count wanted w v lt is same all =
-    subst (All (λ u. block_of u.place ≡ block_of w.place)) (sym (take_more wanted count v lt ∙ ap (λ u. take count wanted ++ u ∷ []) is))
-    (All-push (λ u. block_of u.place ≡ block_of w.place) (take count wanted) v all (sym (same-block w.place v.place same)))
+pub run-more : (count : ℕ) (wanted : List Wanted) → count < length wanted → same_block (get_or wanted 0 Zero).place (get_or wanted count Zero).place ≡ true
+    → ((w : Wanted) (ws : List Wanted) → wanted ≡ w ∷ ws → All (λ u. block_of u.place ≡ block_of w.place) (take count wanted))
+    → (w : Wanted) (ws : List Wanted) → wanted ≡ w ∷ ws → All (λ u. block_of u.place ≡ block_of w.place) (take (count + 1) wanted)
+run-more count wanted lt same all w ws e =
+    let v : Wanted = get_or wanted count Zero in
+    let here : block_of w.place ≡ block_of v.place = same-block w.place v.place (ap (λ (u : Wanted). same_block u.place v.place) (sym (first-is wanted w ws e)) ∙ same) in
+    subst (All (λ u. block_of u.place ≡ block_of w.place)) (sym (take_more wanted count Zero lt))
+    (All-push (λ u. block_of u.place ≡ block_of w.place) (take count wanted) v (all w ws e) (sym here))
+
+next-is : (count : ℕ) (wanted : List Wanted) (w : Wanted) → count < length wanted → same_block w.place (get_or wanted count Zero).place ≡ false → OtherNext w (drop count wanted)
+next-is count [] w lt h = absurd (omega arith)
+next-is zero (v ∷ vs) w lt h = h
+next-is (suc count) (v ∷ vs) w lt h = next-is count vs w (omega arith) h
+
+pub other-next : (count : ℕ) (wanted : List Wanted) → count < length wanted → same_block (get_or wanted 0 Zero).place (get_or wanted count Zero).place ≡ false
+    → (w : Wanted) (ws : List Wanted) → wanted ≡ w ∷ ws → OtherNext w (drop count wanted)
+other-next count wanted lt h w ws e = next-is count wanted w lt (ap (λ (u : Wanted). same_block u.place (get_or wanted count Zero).place) (sym (first-is wanted w ws e)) ∙ h)
+
+past-all : (count : ℕ) (wanted : List Wanted) (w : Wanted) → length wanted ≤ count → OtherNext w (drop count wanted)
+past-all zero [] w le = tt
+past-all zero (v ∷ vs) w le = absurd (omega arith)
+past-all (suc count) [] w le = tt
+past-all (suc count) (v ∷ vs) w le = past-all count vs w (omega arith)
+
+pub none-next : (count : ℕ) (wanted : List Wanted) → length wanted ≤ count → (w : Wanted) (ws : List Wanted) → wanted ≡ w ∷ ws → OtherNext w (drop count wanted)
+none-next count wanted le w ws e = past-all count wanted w le

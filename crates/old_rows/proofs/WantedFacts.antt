@@ -4,12 +4,13 @@ use Rattle.std.specs.Prelude.{All, IsPermutation}
 use Rattle.std.specs.List.{list_any}
 use Rattle.std.proofs.lemmas.Bool.{cases_order, eq-eqb}
 use Rattle.std.proofs.lemmas.List.Elements.{All-nil, All-push}
+use Rattle.std.proofs.lemmas.List.{append-nil}
 use Rattle.std.proofs.lemmas.List.Folds.{list_any-append}
 use Rattle.std.proofs.lemmas.List.Sorted.{All-permutation, list_any-IsPermutation}
 use Rattle.index_level0.specs.declared.place.Place.{Place}
 use Rattle.rowsets.specs.Indexing.{CodeMove}
 use Rattle.partial_loads.specs.declared.folds.Folded.{Folded}
-use Rattle.old_rows.specs.Wanted.{AreWanted, IsWanted, asked, is_of}
+use Rattle.old_rows.specs.Wanted.{AreWanted, IsWanted, asked, is_of, wanted_at}
 use Rattle.old_rows.specs.declared.wanted.Wanted.{Wanted}
 
 some_same : {X : Type 0} (x y : X) → Some x ≡ Some y → x ≡ y
@@ -58,6 +59,12 @@ module _ (keys : List Folded) (located : List CodeMove) (n : ℕ) (wanted : List
           absurd (none_some q (sym none ∙ (λ i. asked (key i) (entry i)) ∙ more))
       go i g d q has had more (inr (inl below)) lt = are.all i g d q below has had more
       go i g d q has had more (inr (inr above)) lt = absurd (omega arith)
+
+pub wanted-next : (keys : List Folded) (located : List CodeMove) (n : ℕ) (wanted : List Wanted) (f : Folded) (e : CodeMove) (place : Option Place) → AreWanted keys located n wanted
+    → slice_get keys n ≡ Some f → slice_get located n ≡ Some e → place ≡ asked f e → AreWanted keys located (n + 1) (wanted ++ wanted_at n place)
+wanted-next keys located n wanted f e None are there at is =
+    subst (AreWanted keys located (n + 1)) (sym (append-nil wanted)) (wanted-skip keys located n wanted are f e there at (sym is))
+wanted-next keys located n wanted f e (Some p) are there at is = wanted-more keys located n wanted are f e there at p (sym is)
 
 pub wanted-sorted : (keys : List Folded) (located : List CodeMove) (n : ℕ) (xs ys : List Wanted) → IsPermutation xs ys → AreWanted keys located n xs → AreWanted keys located n ys
 wanted-sorted keys located n xs ys moved are = record {

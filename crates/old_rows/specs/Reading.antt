@@ -1,5 +1,5 @@
 -- What the old rows of keys are read as, of a snapshot.
-use Rattle.std.specs.Prelude.{◌≡◌, ◌≢◌, ◌⊎◌, ℕ, ◌+◌, ◌-◌, ◌^◌, ◌/◌, ◌%◌, ◌<◌, ◌≤◌, min, List, [], ◌∷◌, ◌++◌, map, length, Option, Some, None, Bool as Truth, true, false, slice_get, slice_set, All, IsTrue, Result, IsErrOf, ⊤}
+use Rattle.std.specs.Prelude.{◌≡◌, ◌≢◌, ◌⊎◌, ℕ, ◌+◌, ◌-◌, ◌^◌, ◌/◌, ◌%◌, ◌<◌, ◌≤◌, min, List, [], ◌∷◌, ◌++◌, map, length, Option, Some, None, Bool as Truth, true, false, ◌==◌, slice_get, slice_set, All, IsTrue, Result, IsErrOf, ⊤}
 use Rattle.std.specs.List.{list_any, AllByRecursion}
 use Rattle.std.specs.FinMap.{get}
 use Rattle.dev_traits.specs.Reader.{ReaderView}
@@ -15,12 +15,14 @@ use Rattle.dev_traits.specs.declared.faults.Part.TheVariants as part
 use Rattle.dev_traits.specs.declared.faults.Shown.TheVariants as shown
 use Rattle.rowsets.specs.Live.{Files, FilesOnce, HasKey, Live, Part, live}
 use Rattle.rowsets.specs.Scans.{Piece}
+use Rattle.segment_read.specs.Blocks.{AreTheRows}
+use Rattle.segment_read.specs.Reads.{OfBlock, OfFile, block_in}
 use Rattle.snapshot_scan.specs.Parts.{IsPieceOf, PartView, read_by}
 use Rattle.snapshot_scan.specs.Scans.{IsBlockDamage}
 use Rattle.snapshot_scan.specs.Snapshots.{SnapshotView, fault_count}
 use Rattle.partial_loads.specs.declared.folds.Folded.{Folded}
 use Rattle.rowsets.specs.Indexing.{CodeMove}
-use Rattle.old_rows.specs.Wanted.{AreWanted, Block, BlocksRise, asked, block_of, blocks_in, is_of}
+use Rattle.old_rows.specs.Wanted.{AreWanted, Block, BlocksRise, asked, block_of, blocks_in}
 use Rattle.old_rows.specs.declared.wanted.Wanted.{Wanted}
 
 -- ---- what a snapshot tells
@@ -52,24 +54,32 @@ pub record TellsRows (v : SnapshotView) (stored : Files) : Type 0 where
   pub told : AreTold v.schema stored v.parts
   pub once : FilesOnce (map part_seen v.parts)
 
--- a row that fits and has this key; and where the readers tell rows, it is a live one of theirs
-pub record IsOldRow (v : SnapshotView) (key row : List Value) : Type 0 where
+-- a row that fits and has this key; and where the readers tell rows, it is the live one at this place
+pub record IsOldRow (v : SnapshotView) (p : Place) (key row : List Value) : Type 0 where
   pub fits : IsTrue (fits_row v.schema row)
   pub key_is : key_of v.schema row ≡ key
-  pub lives : (stored : Files) → TellsRows v stored → (p : Place) × (live_at stored v p ≡ Some row)
+  pub lives : (stored : Files) → TellsRows v stored → live_at stored v p ≡ Some row
 
 -- ---- old rows of keys
 
 abbrev pub Olds : Type 0
 Olds = List (Option (List Value))
 
--- Each key has one old row or none. Those that there are are the keys' rows, and just the wanted ones are there.
+-- the row is an old one of a key that was wanted, at its place
+pub record IsWantedRow (v : SnapshotView) (done : List Wanted) (i : ℕ) (key row : List Value) : Type 0 where
+  pub wanted : Wanted
+  pub at : ℕ
+  pub among : slice_get done at ≡ Some wanted
+  pub of_key : wanted.key ≡ i
+  pub old : IsOldRow v wanted.place key row
+
+-- Each key has one old row or none. Those that there are are the keys' rows at the places at which they were wanted, and
+-- each wanted one is there.
 pub record AreFilled (v : SnapshotView) (keys : List Folded) (done : List Wanted) (olds : Olds) : Type 0 where
   pub long : length olds ≡ length keys
   pub good : (i : ℕ) (f : Folded) (row : List Value) → slice_get keys i ≡ Some f → slice_get olds i ≡ Some (Some row)
-      → IsOldRow v f.key row
+      → IsWantedRow v done i f.key row
   pub full : AllByRecursion (λ w. (row : List Value) × (slice_get olds w.key ≡ Some (Some row))) done
-  pub only : (i : ℕ) (row : List Value) → slice_get olds i ≡ Some (Some row) → list_any (is_of i) done ≡ true
 
 -- these keys are there
 abbrev pub HaveKeys : List Folded → List Wanted → Type 0
@@ -81,6 +91,21 @@ HaveKeys keys wanted = All (λ w. w.key < length keys) wanted
 abbrev pub index_damage : Damaged
 index_damage = record { file = 0; part = part.Area 2; shown = shown.Form }
 
+-- a row of another key stands at a place of a part, or none, as the bytes of its block tell where the reader tells them
+abbrev pub HasNoneAt : Layout → PartView → Place → List Value → Type 0
+HasNoneAt s part p key = OfFile part.reader (λ file. OfBlock part.footer (p.row / 1024) (λ mark.
+    (rows : List (List Value)) × AreTheRows s mark (block_in file mark) rows
+    × ((row : List Value) → slice_get rows (p.row % 1024) ≡ Some row → key_of s row ≡ key → ⊥)))
+
+-- no live row of a key stands at a place of a part: the file has fewer rows, or the row there is dead, or another key's
+abbrev pub IsWrongIn : Layout → PartView → Place → List Value → Type 0
+IsWrongIn s part p key = (part.footer.rows ≤ p.row) ⊎ (list_any (λ r. r == p.row) part.dead ≡ true) ⊎ HasNoneAt s part p key
+
+-- a place is wrong for a key: no part is of its file, or in one that is no live row of the key stands there
+abbrev pub IsWrongPlace : SnapshotView → Place → List Value → Type 0
+IsWrongPlace v p key = ((i : ℕ) (part : PartView) → slice_get v.parts i ≡ Some part → part.number ≡ p.segment → ⊥)
+    ⊎ ((i : ℕ) × (part : PartView) × (slice_get v.parts i ≡ Some part) × (part.number ≡ p.segment) × IsWrongIn v.schema part p key)
+
 -- The index names for a key a place where no live row of the key stands.
 pub record IsLost (v : SnapshotView) (keys : List Folded) (wanted : List Wanted) (d : Damaged) : Type 0 where
   pub told : d ≡ index_damage
@@ -89,6 +114,7 @@ pub record IsLost (v : SnapshotView) (keys : List Folded) (wanted : List Wanted)
   pub among : slice_get wanted at ≡ Some row
   pub key : Folded
   pub is : slice_get keys row.key ≡ Some key
+  pub wrong : IsWrongPlace v row.place key.key
   pub lost : (stored : Files) → TellsRows v stored → HasKey v.schema (live_at stored v) row.place key.key → ⊥
 
 -- a block in which a wanted row stands is damaged, and its file isn't one of rows
@@ -125,18 +151,17 @@ pub record ReadBlocks (blocks : List Block) (old new : List PartView) : Type 0 w
 
 -- ---- old rows that were asked for
 
--- The old rows of keys: none where the key's change doesn't ask for one, or the key has no place; else the key's live row.
-pub record AreOldRows (v : SnapshotView) (keys : List Folded) (located : List CodeMove) (olds : Olds) : Type 0 where
+-- The old rows of keys: none where the key's change doesn't ask for one, or the key has no place; else the row at its
+-- place.
+pub record AreOldsRead (v : SnapshotView) (keys : List Folded) (located : List CodeMove) (olds : Olds) : Type 0 where
   pub long : length olds ≡ length keys
-  pub good : (i : ℕ) (f : Folded) (row : List Value) → slice_get keys i ≡ Some f → slice_get olds i ≡ Some (Some row)
-      → IsOldRow v f.key row
+  pub good : (i : ℕ) (f : Folded) (e : CodeMove) (row : List Value) → slice_get keys i ≡ Some f → slice_get located i ≡ Some e
+      → slice_get olds i ≡ Some (Some row) → (p : Place) × (asked f e ≡ Some p) × IsOldRow v p f.key row
   pub all : (i : ℕ) (f : Folded) (e : CodeMove) (p : Place) → slice_get keys i ≡ Some f → slice_get located i ≡ Some e
       → asked f e ≡ Some p → (row : List Value) × (slice_get olds i ≡ Some (Some row))
-  pub only : (i : ℕ) (f : Folded) (e : CodeMove) (row : List Value) → slice_get keys i ≡ Some f → slice_get located i ≡ Some e
-      → slice_get olds i ≡ Some (Some row) → (p : Place) × (asked f e ≡ Some p)
 
 -- one of the rows that are asked for isn't there, or its block is damaged
-pub record TellsDamage (v : SnapshotView) (keys : List Folded) (located : List CodeMove) (d : Damaged) : Type 0 where
+pub record TellsReadDamage (v : SnapshotView) (keys : List Folded) (located : List CodeMove) (d : Damaged) : Type 0 where
   pub wanted : List Wanted
   pub are : AreWanted keys located (length keys) wanted
   pub damage : IsReadingDamage v keys wanted d
@@ -150,6 +175,6 @@ pub record ReadsAsked (keys : List Folded) (located : List CodeMove) (old new : 
   pub read : ReadBlocks blocks old new
 
 -- none of so many
-pub record HasNone (count : ℕ) (olds : Olds) : Type 0 where
+pub record HasNoOlds (count : ℕ) (olds : Olds) : Type 0 where
   pub long : length olds ≡ count
   pub none : (i : ℕ) (row : List Value) → slice_get olds i ≡ Some (Some row) → ⊥

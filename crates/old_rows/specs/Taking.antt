@@ -1,5 +1,5 @@
 -- What is taken of the rows of one block.
-use Rattle.std.specs.Prelude.{◌≡◌, ◌≢◌, ℕ, ◌%◌, List, ◌++◌, slice_get, Some, IsTrue, true, false, ◌==◌}
+use Rattle.std.specs.Prelude.{◌≡◌, ◌≢◌, ◌⊎◌, ℕ, ◌%◌, List, ◌++◌, slice_get, Some, IsTrue, true, false, ◌==◌}
 use Rattle.std.specs.List.{list_any}
 use Rattle.dev_traits.specs.declared.faults.Damaged.{Damaged}
 use Rattle.dev_traits.specs.declared.faults.ReadFault.{ReadFault}
@@ -19,10 +19,10 @@ pub record IsTaken (s : Layout) (rows : List (List Value)) (dead : List ℕ) (ro
   pub there : slice_get rows (row % 1024) ≡ Some found
   pub lives : list_any (λ r. r == row) dead ≡ false
 
--- no such row stands there
+-- no such row stands there: it is dead, or another key's
 abbrev pub IsNotThere : Layout → List (List Value) → List ℕ → ℕ → List Value → Type 0
-IsNotThere s rows dead row key = (found : List Value) → slice_get rows (row % 1024) ≡ Some found
-    → list_any (λ r. r == row) dead ≡ false → key_of s found ≡ key → ⊥
+IsNotThere s rows dead row key = (list_any (λ r. r == row) dead ≡ true)
+    ⊎ ((found : List Value) → slice_get rows (row % 1024) ≡ Some found → key_of s found ≡ key → ⊥)
 
 -- the fault tells that no such row stands there, or memory is wanted
 pub record IsMissing (s : Layout) (rows : List (List Value)) (dead : List ℕ) (row : ℕ) (key : List Value) (e : ReadFault) : Type 0 where
@@ -32,7 +32,7 @@ pub record IsMissing (s : Layout) (rows : List (List Value)) (dead : List ℕ) (
 -- each row that is taken for one of these is an old row of its key
 abbrev pub AreGiven : Layout → List (List Value) → List ℕ → List Folded → List Wanted → SnapshotView → Type 0
 AreGiven s rows dead keys wanted v = (j : ℕ) (w : Wanted) (f : Folded) (row : List Value) → slice_get wanted j ≡ Some w
-    → slice_get keys w.key ≡ Some f → IsTaken s rows dead w.place.row f.key row → IsOldRow v f.key row
+    → slice_get keys w.key ≡ Some f → IsTaken s rows dead w.place.row f.key row → IsOldRow v w.place f.key row
 
 -- then they are filled in too
 abbrev pub FillsMore : Layout → List (List Value) → List ℕ → List Folded → List Wanted → Olds → Olds → Type 0

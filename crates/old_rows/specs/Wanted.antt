@@ -11,6 +11,11 @@ use Rattle.old_rows.specs.declared.wanted.Wanted.{Wanted}
 abbrev pub asked : Folded → CodeMove → Option Place
 asked f e = cond (overlays f.change) e.1 None
 
+-- the row at a place, if there is one, as that of a key
+abbrev pub wanted_at : ℕ → Option Place → List Wanted
+wanted_at key None = []
+wanted_at key (Some p) = record { place = p; key = key } ∷ []
+
 -- a row that is wanted is the one that a key's change asks for
 pub record IsWanted (keys : List Folded) (located : List CodeMove) (w : Wanted) : Type 0 where
   pub key : Folded

@@ -1,7 +1,7 @@
 ghost use Rattle.std.specs.Prelude.{◌≡◌, IfErr, IfOk, length};
 ghost use Rattle.segment_read.specs.Reads.{OnDamage};
 ghost use Rattle.snapshot_scan.specs.Snapshots.{fault_count};
-ghost use Rattle.old_rows.specs.Reading.{AreOldRows, HasNone, ReadsAsked, ReadsCause, SameButCounts, TellsDamage};
+ghost use Rattle.old_rows.specs.Reading.{AreOldsRead, HasNoOlds, ReadsAsked, ReadsCause, SameButCounts, TellsReadDamage};
 
 use crate::filling::fill_olds;
 use crate::parts_by_file::PartsByFile;
@@ -15,7 +15,7 @@ use std::alloc::{AllocError, Global};
 
 // No old row for any key.
 fn no_rows(alloc: Global, keys: &[Folded]) -> Result<Vec<Option<Row>>, AllocError>
-    ensures { IfOk result (λ olds. HasNone (length keys.now) olds.items) }
+    ensures { IfOk result (λ olds. HasNoOlds (length keys.now) olds.items) }
 {
     let mut olds = Vec::with_capacity(alloc, keys.len())?;
     for _ in keys {
@@ -38,8 +38,8 @@ pub fn read_olds<R: SealedReader>(
     located: &[(KeyBytes, Option<Place>)],
 ) -> Result<Vec<Option<Row>>, ReadFault>
     requires { length located.now ≡ length keys.now }
-    ensures olds { IfOk result (λ olds. AreOldRows snapshot.old keys.now located.now olds.items) }
-    ensures damaged { IfErr result (λ e. OnDamage e (TellsDamage snapshot.old keys.now located.now)) }
+    ensures olds { IfOk result (λ olds. AreOldsRead snapshot.old keys.now located.now olds.items) }
+    ensures damaged { IfErr result (λ e. OnDamage e (TellsReadDamage snapshot.old keys.now located.now)) }
     ensures cause { ReadsCause (fault_count snapshot.old.parts) (fault_count snapshot.new.parts) result }
     ensures reads { ReadsAsked keys.now located.now snapshot.old.parts snapshot.new.parts }
     ensures same { SameButCounts snapshot.old snapshot.new }

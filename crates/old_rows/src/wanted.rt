@@ -1,5 +1,5 @@
-ghost use Rattle.std.specs.Prelude.{◌≡◌, ◌<◌, IfOk, length, map};
-ghost use Rattle.old_rows.specs.Wanted.{AreWanted, IsRun, PlacesInOrder, asked, place_wanted, same_block};
+ghost use Rattle.std.specs.Prelude.{◌≡◌, ◌<◌, ◌++◌, IfOk, OnOk, length, map};
+ghost use Rattle.old_rows.specs.Wanted.{AreWanted, IsRun, PlacesInOrder, asked, place_wanted, same_block, wanted_at};
 
 use index_level0::{KeyBytes, Place};
 use partial_loads::Folded;
@@ -23,6 +23,23 @@ fn asked(key: &Folded, located: &(KeyBytes, Option<Place>)) -> Option<Place>
     }
 }
 
+// Adds the row at a place, if there is one, as that of a key.
+fn add_wanted(
+    wanted: &mut Vec<Wanted>,
+    place: Option<Place>,
+    key: usize,
+) -> Result<(), AllocError>
+    ensures { OnOk result (wanted.new.items ≡ wanted.old.items ++ wanted_at key place) }
+{
+    match place {
+        None => Ok(()),
+        Some(place) => {
+            wanted.push(Wanted { place, key })?;
+            Ok(())
+        }
+    }
+}
+
 // The old rows that the changes of keys ask for, in the order of the keys.
 fn asked_rows(
     alloc: Global,
@@ -34,9 +51,8 @@ fn asked_rows(
 {
     let mut wanted = Vec::with_capacity(alloc, keys.len())?;
     for i in 0..keys.len() {
-        if let Some(place) = asked(&keys[i], &located[i]) {
-            wanted.push(Wanted { place, key: i })?;
-        }
+        let place = asked(&keys[i], &located[i]);
+        add_wanted(&mut wanted, place, i)?;
     }
     Ok(wanted)
 }

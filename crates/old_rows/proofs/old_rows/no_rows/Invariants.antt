@@ -1,5 +1,5 @@
-use Rattle.old_rows.specs.Reading.{HasNone}
+use Rattle.old_rows.specs.Reading.{HasNoOlds}
 use Rattle.old_rows.proofs.old_rows.no_rows.Given as goal
 
 abbrev pub invariant-loop : goal.invariant-loop
-invariant-loop l = HasNone l.index l.olds.items
+invariant-loop l = HasNoOlds l.index l.olds.items
