@@ -31,7 +31,7 @@ use Rattle.partial_loads.specs.Olds.{AreOlds, AreOldsOf}
 use Rattle.partial_loads.proofs.FoldedFacts.{not-among}
 use Rattle.partial_loads.proofs.MakeFacts.{one_key_list, folded_have_changes}
 use Rattle.partial_loads.proofs.MoveFacts.{no-place}
-use Rattle.old_rows.specs.Reading.{AreOldRows, IsBroken, IsLost, IsOldRow, Olds, ReadBlocks, ReadsAsked, TellsDamage, TellsRows, live_at}
+use Rattle.old_rows.specs.Reading.{AreOldsRead, IsBroken, IsLost, IsOldRow, Olds, ReadBlocks, ReadsAsked, TellsReadDamage, TellsRows, live_at}
 use Rattle.old_rows.specs.Wanted.{IsWanted, asked}
 use Rattle.old_rows.specs.declared.wanted.Wanted.{Wanted}
 use Rattle.core_partial.specs.Found.{AreKeysOf, AreTold, FoundView, IsFoundOf, IsLocated, codes_of, part_seen}
@@ -201,7 +201,7 @@ module _ (f : FoundView) (clean : schema_fault f.snapshot.schema.columns f.snaps
     read = reads.read;
   }
 
-  pub found-damage : (d : Damaged) → TellsDamage f.snapshot fs f.located d → IsFoundDamage f d
+  pub found-damage : (d : Damaged) → TellsReadDamage f.snapshot fs f.located d → IsFoundDamage f d
   found-damage d damage = record { keys = fs; folds = folds; damage = damage }
 
   -- ---- where what was found stands for a map
@@ -216,12 +216,10 @@ module _ (f : FoundView) (clean : schema_fault f.snapshot.schema.columns f.snaps
         no-place s (live_at stands.stored f.snapshot) m g.key (place_stored f.located (key_code s g.key) None) stands.stands (stands.places g.key (named-at i g there))
         (place-is i g e there at ∙ none)
 
-    old-is : (key row : Row) → IsOldRow f.snapshot key row → get m key ≡ Some row
-    old-is key row old =
-        let found = old.lives stands.stored tells in
-        (stands.stands.same key row).1 (found.0, found.1, old.key_is)
+    old-is : (p : Place) (key row : Row) → IsOldRow f.snapshot p key row → get m key ≡ Some row
+    old-is p key row old = (stands.stands.same key row).1 (p, old.lives stands.stored tells, old.key_is)
 
-    pub olds-of-map : (os : Olds) → AreOldRows f.snapshot fs f.located os → AreOldsOf m fs os
+    pub olds-of-map : (os : Olds) → AreOldsRead f.snapshot fs f.located os → AreOldsOf m fs os
     olds-of-map os are = olds-of m fs os are.long one
       where
         one : (i : ℕ) (g : Folded) (o : Option Row) → slice_get fs i ≡ Some g → slice_get os i ≡ Some o → overlays g.change ≡ true → o ≡ get m g.key
@@ -234,7 +232,7 @@ module _ (f : FoundView) (clean : schema_fault f.snapshot.schema.columns f.snaps
 
             go : (p : Option Row) (q : Option Place) → (entry-at fs f.located i g (as-many f fs located folds) there).0.1 ≡ q → slice_get os i ≡ Some p
                 → slice_get f.located i ≡ Some (entry-at fs f.located i g (as-many f fs located folds) there).0 → p ≡ get m g.key
-            go (Some row) q is got at = sym (old-is g.key row (are.good i g row there got))
+            go (Some row) q is got at = let old = are.good i g (entry-at fs f.located i g (as-many f fs located folds) there).0 row there at got in sym (old-is old.0 g.key row old.2)
             go None None is got at = sym (no-row i g (entry-at fs f.located i g (as-many f fs located folds) there).0 there at is)
             go None (Some p) is got at =
                 let e = (entry-at fs f.located i g (as-many f fs located folds) there).0 in
@@ -247,7 +245,7 @@ module _ (f : FoundView) (clean : schema_fault f.snapshot.schema.columns f.snaps
     told-at (p ∷ ps) zero part told h = subst (λ (q : PartView). IsPieceOf s q (record { rows = stands.stored q.number; dead = q.dead })) (some_same p part h) told.0
     told-at (p ∷ ps) (suc i) part told h = told-at ps i part told.1 h
 
-    pub undamaged : (d : Damaged) → TellsDamage f.snapshot fs f.located d → ⊥
+    pub undamaged : (d : Damaged) → TellsReadDamage f.snapshot fs f.located d → ⊥
     undamaged d tells_damage = go tells_damage.damage
       where
         get-at : (ws : List Wanted) (i : ℕ) (w : Wanted) → All (IsWanted fs f.located) ws → slice_get ws i ≡ Some w → IsWanted fs f.located w

@@ -17,7 +17,8 @@ use Rattle.partial_loads.specs.declared.folds.Folded.{Folded}
 use Rattle.partial_loads.specs.Folded.{AreFolded, folded_keys}
 use Rattle.partial_loads.specs.Folds.{change_at, overlays}
 use Rattle.core_publish.specs.Prepared.{files_of, moves_to}
-use Rattle.old_rows.specs.Reading.{ReadBlocks, TellsDamage}
+use Rattle.partial_loads.specs.Olds.{made_of as rows_made}
+use Rattle.old_rows.specs.Reading.{AreOldsRead, ReadBlocks, TellsReadDamage}
 use Rattle.old_rows.specs.Wanted.{Block, BlocksRise, block_of}
 use Rattle.core_partial.specs.Found.{FoundView}
 use Rattle.core_partial.specs.Prepared.{IsMadeOver, folded_of, located_move, made_move}
@@ -43,11 +44,18 @@ pub record ReadsFound (old new : FoundView) : Type 0 where
   pub asked_for : All (λ b. (p : Place) × AsksFor old p × (block_of p ≡ b)) blocks
   pub read : ReadBlocks blocks old.snapshot.parts new.snapshot.parts
 
+-- Over every reader: the rows are made of old rows that were read, of each key the one at its place, and none where its
+-- change doesn't ask for one or it has no place.
+pub record IsMadeOfRead (f : FoundView) (keys : List Folded) (rows : List (List Value)) : Type 0 where
+  pub olds : List (Option (List Value))
+  pub read : AreOldsRead f.snapshot keys f.located olds
+  pub rows_are : rows ≡ rows_made f.snapshot.schema f.load.given keys olds
+
 -- what reading the old rows of the folded keys may tell as damage
 pub record IsFoundDamage (f : FoundView) (d : Damaged) : Type 0 where
   pub keys : List Folded
   pub folds : AreFolded f.snapshot.schema f.load.given None f.load.ops keys
-  pub damage : TellsDamage f.snapshot keys f.located d
+  pub damage : TellsReadDamage f.snapshot keys f.located d
 
 -- The keys of the load with what their lines come to, the places at which they were located, and where the rows stand
 -- that are made of them; and these rows were made over some map.

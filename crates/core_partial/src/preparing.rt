@@ -6,8 +6,8 @@ ghost use Rattle.core_publish.specs.Prepared.{EachTells};
 ghost use Rattle.core_partial.specs.Found.{IsFoundOf};
 ghost use Rattle.segment_read.specs.Reads.{OnDamage};
 ghost use Rattle.old_rows.specs.Reading.{ReadsCause, SameButCounts};
-ghost use Rattle.core_partial.specs.Preparing.{AreFoundKeys, IsFoundDamage, OnOutsideDamage, ReadsFound};
-ghost use Rattle.core_partial.specs.Prepared.{IsMadeOver, WasMadeOver, located_move, nothing_again};
+ghost use Rattle.core_partial.specs.Preparing.{AreFoundKeys, IsFoundDamage, IsMadeOfRead, OnOutsideDamage, ReadsFound};
+ghost use Rattle.core_partial.specs.Prepared.{IsMadeOver, WasMadeOver, folded_of, located_move, nothing_again};
 
 use crate::making::{MadeKeys, make_keys};
 use crate::prepared::Again;
@@ -29,6 +29,8 @@ fn found_keys<R: SealedReader>(
 ) -> Result<MadeKeys, ReadFault>
     requires load { found.old.load ≡ record { given = given.now; ops = ops.items } }
     ensures keys { IfOk result (AreFoundKeys found.old) }
+    ensures read { IfOk result (λ made.
+        IsMadeOfRead found.old (map folded_of made.keys.items) made.results.rows.items) }
     ensures over { IfOk result (λ made. (m : Rows) → IsFoundOf found.old m
         → IsMadeOver found.old.snapshot.schema found.old.load made.keys.items made.results.rows.items m) }
     ensures damaged { IfErr result (λ e. OnDamage e (IsFoundDamage found.old)) }
@@ -67,6 +69,9 @@ pub fn prepare_partial<M: FileMaker, R: SealedReader>(
     // It has the places at which the load was located, and its rows were made over the map that was found.
     ensures places { IfOk result (λ p. map located_move p.keys ≡ found.old.located) }
     ensures over { IfOk result (λ p. (m : Rows) → IsFoundOf found.old m → WasMadeOver p m) }
+
+    // Over every reader, the rows are made of old rows that were read at the keys' places.
+    ensures read { IfOk result (λ p. IsMadeOfRead found.old (map folded_of p.keys) p.rows) }
 
     // What was found stays.
     ensures found_load { found.new.load ≡ found.old.load }

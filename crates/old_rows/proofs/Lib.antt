@@ -7,3 +7,4 @@ pub mod AskedFacts
 pub mod FillingFacts
 pub mod PartFacts
 pub mod TakeFacts
+pub mod ReadingFacts
