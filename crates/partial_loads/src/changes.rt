@@ -35,7 +35,8 @@ impl KeyChange {
         }
     }
 
-    /// This change, and then a later one of the same load, whose lines carry these columns and may have a condition on one of them.
+    /// This change, and then a later one of the same load, whose lines carry these columns and may have a condition on one
+    /// of them.
     pub fn then(self, given: &[u32], when: Option<u32>, later: KeyChange) -> KeyChange
         ensures { result ≡ composed given.now when self later }
     {
@@ -89,7 +90,8 @@ impl KeyChange {
         }
     }
 
-    /// Whether a condition on a column holds the change back: no line deleted the key, and the row that it has is greater there.
+    /// Whether a condition on a column holds the change back: no line deleted the key, and the row that it has is greater
+    /// there.
     pub fn is_held_back(&self, given: &[u32], column: u32, old: &Option<Row>) -> bool
         ensures { result ≡ holds_back given.now column self.now old.now }
     {

@@ -1,14 +1,22 @@
-//! What holds of loads whose rows are made outside the turn: functions that do nothing, each of which a clause gives its law.
+//! What holds of loads whose rows are made outside the turn: functions that do nothing, each of which a clause gives its
+//! law.
 ghost use Rattle.partial_loads.specs.Example.{OneMoved, RightSettling, TwiceAtWrongSettling, HeldBack};
-ghost use Rattle.partial_loads.specs.Folds.{ComposedActs, FoldIsLines, LoadIsChanges, NoConditionIsLines, DeleteRenews, LastCells, OldRowUnasked};
-ghost use Rattle.partial_loads.specs.Moves.{SharedPlace, ReadIsRow, UnmovedKeepsRow, UnmovedKeepsResult, EachIsLocated, PlacesTellAbsent, MovedAre, MovedOnce, MovedAreCounted, FewReads, UnmovedUnread, KeptVersionStays, HadRowsStays, HeldIsMeanwhile};
-ghost use Rattle.partial_loads.specs.Making.{MadeAreResults, FoldedAreResults, FoldedHaveChanges, StoodKeysFirst, MadeOnce, WrittenIsIndexed, RisingOnce, OneKeyList};
+ghost use Rattle.partial_loads.specs.Folds.{ComposedActs, FoldIsLines, LoadIsChanges, NoConditionIsLines};
+ghost use Rattle.partial_loads.specs.Folds.{DeleteRenews, LastCells, OldRowUnasked};
+ghost use Rattle.partial_loads.specs.Moves.{SharedPlace, ReadIsRow, UnmovedKeepsRow, UnmovedKeepsResult};
+ghost use Rattle.partial_loads.specs.Moves.{EachIsLocated, PlacesTellAbsent, MovedAre, MovedOnce, MovedAreCounted};
+ghost use Rattle.partial_loads.specs.Moves.{FewReads, UnmovedUnread, KeptVersionStays, HadRowsStays, HeldIsMeanwhile};
+ghost use Rattle.partial_loads.specs.Making.{MadeAreResults, FoldedAreResults, FoldedHaveChanges, StoodKeysFirst};
+ghost use Rattle.partial_loads.specs.Making.{MadeOnce, WrittenIsIndexed, RisingOnce, OneKeyList};
 ghost use Rattle.partial_loads.specs.Conditions.{ResultIsCandidate, EffectIsNotHeld, CandidatesMake};
 ghost use Rattle.partial_loads.specs.Publishing.{InTurnLoadIsHeld, WrittenLoadIsHeld};
 ghost use Rattle.partial_loads.specs.Publications.{TwiceMadeIsReady};
 ghost use Rattle.partial_loads.specs.Olds.{MadeRowsFit, OldsHaveMap, OldsMakeRows};
 ghost use Rattle.partial_loads.specs.Standings.{CodesTellStandings, StandingsCount};
-ghost use Rattle.partial_loads.specs.Settling.{MadeByKey, MovedAreAgain, SettledAreResults, SettledMakesLoad, DeadOfBoth, SettledHasRow, LocatedLoadStands, LocatedLoadIsHeld, FoundAreIn, FoundAreDead, SettledMovesMove, SettledIsReady, StaleIsWrong};
+ghost use Rattle.partial_loads.specs.Settling.{MadeByKey, MovedAreAgain, SettledAreResults, SettledMakesLoad};
+ghost use Rattle.partial_loads.specs.Settling.{DeadOfBoth, SettledHasRow, LocatedLoadStands, LocatedLoadIsHeld};
+ghost use Rattle.partial_loads.specs.Settling.{FoundAreIn, FoundAreDead, SettledMovesMove, SettledIsReady};
+ghost use Rattle.partial_loads.specs.Settling.{StaleIsWrong};
 
 /// The lines of a key come to one change of the row at it.
 pub fn folding()
