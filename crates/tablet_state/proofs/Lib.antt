@@ -27,3 +27,6 @@ pub mod Flooring
 pub mod Raising
 pub mod FloorReplies
 pub mod FloorState
+pub mod EndFacts
+pub mod Ending
+pub mod PlanReplies
