@@ -1,0 +1,4 @@
+pub mod Files
+pub mod Drafts
+pub mod Plans
+pub mod Merging
