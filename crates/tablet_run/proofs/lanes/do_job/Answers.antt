@@ -9,3 +9,6 @@ returns-in-Scan g c = c.scan_version.ensures c.args.job.now _ c.in-Scan.is
 
 pub returns-in-Stat : goal.returns-in-Stat
 returns-in-Stat g c = c.count_rows.ensures c.args.job.now _ c.args.place c.in-Stat.is
+
+pub returns-in-Partial : goal.returns-in-Partial
+returns-in-Partial g c = c.partial_file.ensures c.args.job.now _ c.in-Partial.is (sym c.as_slice-2.ensures)
