@@ -52,7 +52,7 @@ touched-fits s (op ∷ ops) short k e =
       | inr h ↦ touched-fits s ops (λ i d lt. short (suc i) d (omega arith)) k h
     ]
 
-each-key : (P : Key → Type 0) (keys : List Key) → ((k : Key) → is_among keys k ≡ true → P k) → AllByRecursion P keys
+pub each-key : (P : Key → Type 0) (keys : List Key) → ((k : Key) → is_among keys k ≡ true → P k) → AllByRecursion P keys
 each-key P [] f = tt
 each-key P (k ∷ keys) f = (
   f k (or_left (eq_by_cmp key_cmp k k) (is_among keys k) (ap is_eq (tied_itself key_total k))),

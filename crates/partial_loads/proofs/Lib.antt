@@ -1,0 +1,14 @@
+pub mod FoldFacts
+pub mod MoveFacts
+pub mod StandingFacts
+pub mod FoldedFacts
+pub mod LineFacts
+pub mod KeptFacts
+pub mod MakeFacts
+pub mod SettleFacts
+pub mod ConditionFacts
+pub mod PublishedFacts
+pub mod NumberedFacts
+pub mod ReadyFacts
+pub mod OldFacts
+pub mod CarriedFacts

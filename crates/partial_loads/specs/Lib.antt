@@ -1,0 +1,12 @@
+pub mod Folds
+pub mod Lines
+pub mod Folded
+pub mod Moves
+pub mod Making
+pub mod Settling
+pub mod Standings
+pub mod Conditions
+pub mod Publishing
+pub mod Publications
+pub mod Olds
+pub mod Example
