@@ -3,7 +3,6 @@ use Rattle.std.proofs.Common.{◌≡◌, refl, ap, sym, subst, ◌∙◌, ℕ, L
 use Rattle.std.specs.Prelude.{⊤}
 use Rattle.dev_traits.specs.Image.{Image}
 use Rattle.dev_traits.specs.View.{Calm, View, EachImage}
-use Rattle.gated_log.specs.Log.{EndsAt}
 use Rattle.pk_model.specs.declared.books.Book.{Book}
 use Rattle.pk_model.specs.declared.calls.Call.TheVariants as call
 use Rattle.pk_model.specs.declared.calls.Want.TheVariants.{Latest}
