@@ -21,3 +21,4 @@ pub mod RowFacts
 pub mod Lending
 pub mod KeptFacts
 pub mod Living
+pub mod MovingFacts

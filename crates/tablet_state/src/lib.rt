@@ -3,6 +3,7 @@
 
 mod adopting;
 mod changes;
+mod copies;
 mod hands;
 mod laws;
 mod making;
@@ -13,6 +14,7 @@ mod state;
 mod turns;
 
 pub use changes::{Change, Ready};
+pub use copies::told_keys;
 pub use laws::{holding, replying, standing};
 pub use parts::StateParts;
 pub use ready::ReadyFault;
