@@ -1,22 +1,27 @@
--- Lines that are sorted by the codes of their keys are in the order of their keys, and those of one key keep theirs.
-use Rattle.std.proofs.Common.{◌≡◌, refl, ap, sym, subst, ◌∙◌, ℕ, suc, ◌+◌, ◌<◌, ◌≤◌, List, [], ◌∷◌, ◌++◌, length, get_or, filter, Option, Bool as Truth, true, false, ◌&&◌, not, cond, T, arith, add-one}
-use Rattle.std.specs.Prelude.{All, IsPermutation}
+-- Ranks that are sorted stand for lines in the order of their keys, and those of one key keep theirs.
+use Rattle.std.proofs.Common.{◌≡◌, refl, ap, sym, subst, ◌∙◌, ℕ, zero, suc, ◌+◌, ◌<◌, ◌≤◌, ◌==◌, List, [], ◌∷◌, ◌++◌, drop, length, get_or, filter, Option, None, inl, inr, Bool as Truth, true, false, ◌&&◌, ◌||◌, not, cond, T, arith, add-one, eq-eqb}
+use Rattle.std.specs.Prelude.{All, IsPermutation, ◌⊎◌}
+use Rattle.std.specs.List.{AllByRecursion, IsDistinct, list_any}
 use Rattle.std.specs.List.Sorted.{IsStableBy, ties}
-use Rattle.std.specs.Cmp.{tied_itself}
-use Rattle.std.specs.Cmp.Lexicographic.{slice_cmp}
-use Rattle.std.specs.Ordering.{eq_by_cmp, is_eq, is_le, is_lt, nat_cmp, ordering_reverse}
+use Rattle.std.specs.Cmp.{IsTotalOrder, tied_itself}
+use Rattle.std.specs.Ordering.{eq_by_cmp, is_eq, is_le, is_lt, nat_cmp, ordering_reverse, ordering_then}
 use Rattle.std.specs.declared.cmp.Ordering.{Ordering}
 use Rattle.std.specs.declared.cmp.Ordering.TheVariants.{Less, Equal, Greater}
-use Rattle.std.proofs.lemmas.Cmp.{nat_cmp_total, nat_list_cmp_total}
-use Rattle.std.proofs.lemmas.List.Sorted.{All-permutation, IsPermutation-map, IsPermutation-trans}
-use Rattle.std.proofs.lemmas.List.{map-append}
+use Rattle.std.proofs.lemmas.Bool.{ne_eqb}
+use Rattle.std.proofs.lemmas.Cmp.{nat_cmp_total, on_total, ranked, then_total}
+use Rattle.std.proofs.lemmas.List.{drop_more}
 use Rattle.std.proofs.lemmas.List.Elements.{All-push}
+use Rattle.std.proofs.lemmas.List.Sorted.{IsPermutation-map, list_any-IsPermutation}
+use Rattle.std.proofs.lemmas.Map.Keys.{IsDistinct-IsPermutation}
 use Rattle.std.proofs.lemmas.Map.Views.{tells_apart}
-use Rattle.key_code.specs.KeyCode.{IsInOrder, key_code}
-use Rattle.key_code.specs.Prefixes.{prefix_of}
+use Rattle.std.proofs.Math.ListN.{drop_of_length-le}
+use Rattle.key_code.proofs.KeyLemmas.{order_of_keys}
+use Rattle.key_code.proofs.PrefixOrder.{less_by_prefix}
+use Rattle.key_code.specs.KeyCode.{key_code}
+use Rattle.key_code.specs.Prefixes.{AreBytes, prefix_of}
 use Rattle.pk_values.specs.Order.{key_cmp}
 use Rattle.pk_values.specs.OrderFacts.{key_total, key_exact}
-use Rattle.pk_values.specs.Schemas.{Layout}
+use Rattle.pk_values.specs.Schemas.{Layout, schema_fault}
 use Rattle.pk_values.specs.declared.cells.Value.{Value}
 use Rattle.pk_model.specs.Laws.{row_after, result_for}
 use Rattle.pk_model.specs.Merges.{names_next, rise}
@@ -24,17 +29,16 @@ use Rattle.pk_model.specs.Tables.{key_named}
 use Rattle.pk_model.specs.declared.calls.Op.{Op}
 use Rattle.pk_model.specs.declared.calls.Op.TheVariants.{Delete}
 use Rattle.pk_model.proofs.RunLaws as run
-use Rattle.core_publish.specs.declared.lines.Line.{Line}
-use Rattle.core_publish.specs.Lines.{IsCoded, IsShortKey, IsSortedLoad, code_next, ops_of}
+use Rattle.core_publish.specs.declared.lines.Rank.{Rank}
+use Rattle.core_publish.specs.Lines.{AreCounted, IsOrder, IsRanked, IsShortKey, IsSortedLoad, key_at, lines_in, op_at, rank_cmp, same_line}
 
--- codes compare as the keys do
-pub codes-order : (s : Layout) (a b : Line) → IsCoded s a → IsCoded s b → slice_cmp nat_cmp a.code b.code ≡ key_cmp (key_named a.op) (key_named b.op)
-codes-order s a b ca cb = ap (slice_cmp nat_cmp a.code) cb.code ∙ ca.order (key_named b.op) cb.key.fits
+-- ---- the order of ranks
 
--- so the next line has a key's code where it names the key
-pub next-code : (s : Layout) (line : Line) (lines : List Line) → IsCoded s line → All (IsCoded s) lines → code_next line.code lines ≡ names_next (key_named line.op) (ops_of lines)
-next-code s line [] coded all = refl
-next-code s line (l ∷ lines) coded all = ap is_eq (codes-order s line l coded (all 0 l (omega arith)))
+abbrev pub rank_before : List Op → Rank → Rank → Truth
+rank_before ops a b = is_lt (rank_cmp ops a b)
+
+pub rank_total : (ops : List Op) → IsTotalOrder (rank_cmp ops)
+rank_total ops = then_total (on_total (λ (r : Rank). r.number) nat_cmp_total) (on_total (λ (r : Rank). key_at ops r.line) key_total)
 
 not_after : (a b : List Value) → is_lt (key_cmp b a) ≡ false → T (is_le (key_cmp a b))
 not_after a b h = by (key_cmp b a) (key_total.antisymm a b) h
@@ -44,91 +48,176 @@ not_after a b h = by (key_cmp b a) (key_total.antisymm a b) h
     by Equal e n = subst (λ r. T (is_le r)) (sym e) tt
     by Greater e n = subst (λ r. T (is_le r)) (sym e) tt
 
-abbrev pub code_before : Line → Line → Truth
-code_before a b = is_lt (slice_cmp nat_cmp a.code b.code)
+-- a line with a lower number has a lower key
+lower_key : (s : Layout) → schema_fault s.columns s.keys ≡ None → (ops : List Op) (a b : Rank) → IsRanked s ops a → IsRanked s ops b → a.number < b.number → key_cmp (key_at ops a.line) (key_at ops b.line) ≡ Less
+lower_key s valid ops a b ra rb lt =
+    let ka = key_at ops a.line in
+    let kb = key_at ops b.line in
+    let less : prefix_of (key_code s ka) < prefix_of (key_code s kb) = subst (λ n. n < prefix_of (key_code s kb)) ra.number (subst (λ n. a.number < n) rb.number lt) in
+    sym (order_of_keys s ka valid ra.key.fits kb rb.key.fits) ∙ less_by_prefix 8 (key_code s ka) (key_code s kb) ra.bytes rb.bytes less
 
-pub rise-coded : (s : Layout) (lines : List Line) → All (IsCoded s) lines → ((k : ℕ) (d : Line) → 0 ≤ k → k + 1 < length lines → code_before (get_or lines (k + 1) d) (get_or lines k d) ≡ false)
-    → T (rise (ops_of lines))
-rise-coded s [] coded h = tt
-rise-coded s (a ∷ []) coded h = tt
-rise-coded s (a ∷ b ∷ lines) coded h =
-    let ca : IsCoded s a = coded 0 a (omega arith) in
-    let cb : IsCoded s b = coded 1 a (omega arith) in
-    run.both _ _ (not_after (key_named a.op) (key_named b.op) (ap is_lt (sym (codes-order s b a cb ca)) ∙ h 0 a (omega arith) (omega arith)))
-    (rise-coded s (b ∷ lines) (λ i d lt. coded (suc i) d (omega arith)) (λ k d low high.
-    let later : code_before (get_or (b ∷ lines) (suc k) d) (get_or (b ∷ lines) k d) ≡ false = rw (add-one) at (h (suc k) d (omega arith) (omega arith)) in
+in_key_order : (s : Layout) → schema_fault s.columns s.keys ≡ None → (ops : List Op) (a b : Rank) → IsRanked s ops a → IsRanked s ops b → rank_before ops b a ≡ false → T (is_le (key_cmp (key_at ops a.line) (key_at ops b.line)))
+in_key_order s valid ops a b ra rb h = by (nat_cmp b.number a.number) refl h
+  where
+    by : (o : Ordering) → nat_cmp b.number a.number ≡ o → is_lt (ordering_then o (key_cmp (key_at ops b.line) (key_at ops a.line))) ≡ false → T (is_le (key_cmp (key_at ops a.line) (key_at ops b.line)))
+    by Less e n = cc
+    by Equal e n = not_after (key_at ops a.line) (key_at ops b.line) n
+    by Greater e n = subst (λ o. T (is_le o)) (sym (lower_key s valid ops a b ra rb (ranked b.number a.number Greater (sym e)))) tt
+
+rise-ranked : (s : Layout) → schema_fault s.columns s.keys ≡ None → (ops : List Op) (order : List Rank) → All (IsRanked s ops) order
+    → ((k : ℕ) (d : Rank) → 0 ≤ k → k + 1 < length order → rank_before ops (get_or order (k + 1) d) (get_or order k d) ≡ false) → T (rise (lines_in ops order))
+rise-ranked s valid ops [] all h = tt
+rise-ranked s valid ops (a ∷ []) all h = tt
+rise-ranked s valid ops (a ∷ b ∷ order) all h =
+    run.both _ _ (in_key_order s valid ops a b (all 0 a (omega arith)) (all 1 a (omega arith)) (h 0 a (omega arith) (omega arith)))
+    (rise-ranked s valid ops (b ∷ order) (λ i d lt. all (suc i) d (omega arith)) (λ k d low high.
+    let later : rank_before ops (get_or (b ∷ order) (suc k) d) (get_or (b ∷ order) k d) ≡ false = rw (add-one) at (h (suc k) d (omega arith) (omega arith)) in
     rw (add-one) later))
 
-abbrev names : List Value → Line → Truth
-names key line = eq_by_cmp key_cmp key (key_named line.op)
+-- ---- the results of keys
+
+abbrev names : List Op → List Value → Rank → Truth
+names ops key r = eq_by_cmp key_cmp key (key_at ops r.line)
 
 -- lines that a test leaves out don't count at a key where it takes each line that names the key
-filtered : (s : Layout) (given : List ℕ) (key : List Value) (p : Line → Truth) (lines : List Line) → All (λ line. names key line ≡ true → p line ≡ true) lines
-    → (old : Option (List Value)) → result_for s given (ops_of (filter p lines)) key old ≡ result_for s given (ops_of lines) key old
-filtered s given key p [] takes old = refl
-filtered s given key p (line ∷ lines) takes old =
-    elim (p line) as (λ t. p line ≡ t → result_for s given (ops_of (cond t (line ∷ filter p lines) (filter p lines))) key old ≡ result_for s given (ops_of (line ∷ lines)) key old) [
-      | true ↦ λ e. filtered s given key p lines later (cond (names key line) (row_after s given line.op old) old)
-      | false ↦ λ e. filtered s given key p lines later old ∙ ap (λ b. result_for s given (ops_of lines) key (cond b (row_after s given line.op old) old)) (sym (left_out (names key line) refl e))
+filtered : (s : Layout) (given : List ℕ) (ops : List Op) (key : List Value) (p : Rank → Truth) (order : List Rank) → All (λ r. names ops key r ≡ true → p r ≡ true) order
+    → (old : Option (List Value)) → result_for s given (lines_in ops (filter p order)) key old ≡ result_for s given (lines_in ops order) key old
+filtered s given ops key p [] takes old = refl
+filtered s given ops key p (r ∷ order) takes old =
+    elim (p r) as (λ t. p r ≡ t → result_for s given (lines_in ops (cond t (r ∷ filter p order) (filter p order))) key old ≡ result_for s given (lines_in ops (r ∷ order)) key old) [
+      | true ↦ λ e. filtered s given ops key p order later (cond (names ops key r) (row_after s given (op_at ops r.line) old) old)
+      | false ↦ λ e. filtered s given ops key p order later old ∙ ap (λ b. result_for s given (lines_in ops order) key (cond b (row_after s given (op_at ops r.line) old) old)) (sym (left_out (names ops key r) refl e))
     ] refl
   where
-    later : All (λ l. names key l ≡ true → p l ≡ true) lines
+    later : All (λ r. names ops key r ≡ true → p r ≡ true) order
     later i d lt = takes (suc i) d (omega arith)
 
-    left_out : (t : Truth) → names key line ≡ t → p line ≡ false → names key line ≡ false
+    left_out : (t : Truth) → names ops key r ≡ t → p r ≡ false → names ops key r ≡ false
     left_out false e f = e
-    left_out true e f = let clash : true ≡ false = sym (takes 0 line (omega arith) e) ∙ f in cc
+    left_out true e f = let clash : true ≡ false = sym (takes 0 r (omega arith) e) ∙ f in cc
 
--- a stable sort in which lines of one code tie gives each key the same result
-stable-lines : (s : Layout) (xs ys : List Line) (lt : Line → Line → Truth) → IsStableBy lt xs ys → ((a b : Line) → a.code ≡ b.code → ties lt a b ≡ true)
-    → All (IsCoded s) xs → All (IsCoded s) ys → (given : List ℕ) (key : List Value) (old : Option (List Value))
-    → result_for s given (ops_of ys) key old ≡ result_for s given (ops_of xs) key old
-stable-lines s xs ys lt stable tie cx cy given key old =
-    sym (filtered s given key p ys (takes ys cy) old) ∙ ap (λ lines. result_for s given (ops_of lines) key old) (stable q) ∙ filtered s given key p xs (takes xs cx) old
+-- where no line names a key, its row stays
+unnamed : (s : Layout) (given : List ℕ) (ops : List Op) (key : List Value) (order : List Rank) → list_any (names ops key) order ≡ false → (old : Option (List Value)) → result_for s given (lines_in ops order) key old ≡ old
+unnamed s given ops key [] none old = refl
+unnamed s given ops key (r ∷ order) none old = by (names ops key r) refl none (λ n. unnamed s given ops key order n old)
   where
-    q : Line
-    q = record { code = key_code s key; op = Delete key }
+    by : (t : Truth) → names ops key r ≡ t → (t || list_any (names ops key) order) ≡ false → (list_any (names ops key) order ≡ false → result_for s given (lines_in ops order) key old ≡ old)
+        → result_for s given (lines_in ops order) key (cond t (row_after s given (op_at ops r.line) old) old) ≡ old
+    by true e n rest = cc
+    by false e n rest = rest n
 
-    p : Line → Truth
-    p = ties lt q
+-- a line that names a key, if there is one
+record Named (s : Layout) (ops : List Op) (key : List Value) : Type 0 where
+  rank : Rank
+  names_it : names ops key rank ≡ true
+  is : IsRanked s ops rank
 
-    takes : (lines : List Line) → All (IsCoded s) lines → All (λ line. names key line ≡ true → p line ≡ true) lines
-    takes lines coded i d lt is =
-        let line = get_or lines i d in
-        tie q line (ap (key_code s) (tells_apart key_exact key (key_named line.op) is) ∙ sym (coded i d lt).code)
+first_named : (s : Layout) (ops : List Op) (key : List Value) (order : List Rank) → All (IsRanked s ops) order → (list_any (names ops key) order ≡ false) ⊎ Named s ops key
+first_named s ops key [] all = inl refl
+first_named s ops key (r ∷ order) all = by (names ops key r) refl (first_named s ops key order (λ i d lt. all (suc i) d (omega arith)))
+  where
+    by : (t : Truth) → names ops key r ≡ t → (list_any (names ops key) order ≡ false) ⊎ Named s ops key → ((t || list_any (names ops key) order) ≡ false) ⊎ Named s ops key
+    by true e later = inr (record { rank = r; names_it = e; is = all 0 r (omega arith) })
+    by false e later = later
 
-number-ties : (a b : Line) → a.code ≡ b.code → ties (λ x y. is_lt (nat_cmp (prefix_of x.code) (prefix_of y.code))) a b ≡ true
-number-ties a b e =
-    subst (λ c. (not (is_lt (nat_cmp (prefix_of a.code) (prefix_of c))) && not (is_lt (nat_cmp (prefix_of c) (prefix_of a.code)))) ≡ true) e
-    (ap (λ o. not (is_lt o) && not (is_lt o)) (tied_itself nat_cmp_total (prefix_of a.code)))
+-- lines of one key tie
+key-ties : (s : Layout) (ops : List Op) (a b : Rank) → IsRanked s ops a → IsRanked s ops b → key_at ops a.line ≡ key_at ops b.line → ties (rank_before ops) a b ≡ true
+key-ties s ops a b ra rb e =
+    let number : a.number ≡ b.number = ra.number ∙ ap (λ k. prefix_of (key_code s k)) e ∙ sym rb.number in
+    let there : rank_cmp ops a b ≡ Equal =
+    (λ i. ordering_then (nat_cmp a.number (sym number i)) (key_cmp (key_at ops a.line) (sym e i)))
+    ∙ ap (λ o. ordering_then o (key_cmp (key_at ops a.line) (key_at ops a.line))) (tied_itself nat_cmp_total a.number) ∙ tied_itself key_total (key_at ops a.line) in
+    let back : rank_cmp ops b a ≡ Equal =
+    (λ i. ordering_then (nat_cmp (sym number i) a.number) (key_cmp (sym e i) (key_at ops a.line)))
+    ∙ ap (λ o. ordering_then o (key_cmp (key_at ops a.line) (key_at ops a.line))) (tied_itself nat_cmp_total a.number) ∙ tied_itself key_total (key_at ops a.line) in
+    (λ i. not (is_lt (there i)) && not (is_lt (back i)))
 
-code-ties : (a b : Line) → a.code ≡ b.code → ties code_before a b ≡ true
-code-ties a b e =
-    subst (λ c. (not (is_lt (slice_cmp nat_cmp a.code c)) && not (is_lt (slice_cmp nat_cmp c a.code))) ≡ true) e
-    (ap (λ o. not (is_lt o) && not (is_lt o)) (tied_itself nat_list_cmp_total a.code))
+-- a stable sort gives each key the same result
+stable-order : (s : Layout) (ops : List Op) (xs ys : List Rank) → IsStableBy (rank_before ops) xs ys → IsPermutation xs ys → All (IsRanked s ops) xs → All (IsRanked s ops) ys
+    → (given : List ℕ) (key : List Value) (old : Option (List Value)) → result_for s given (lines_in ops ys) key old ≡ result_for s given (lines_in ops xs) key old
+stable-order s ops xs ys stable moved rx ry given key old = by (first_named s ops key xs rx)
+  where
+    takes : (n : Named s ops key) (order : List Rank) → All (IsRanked s ops) order → All (λ r. names ops key r ≡ true → ties (rank_before ops) n.rank r ≡ true) order
+    takes n order all i d lt is =
+        let r = get_or order i d in
+        key-ties s ops n.rank r n.is (all i d lt) (sym (tells_apart key_exact key (key_at ops n.rank.line) n.names_it) ∙ tells_apart key_exact key (key_at ops r.line) is)
 
--- sorted by the numbers of the codes and then by the codes
-pub twice-sorted : (s : Layout) (xs ys zs : List Line) → All (IsCoded s) xs → IsPermutation xs ys → IsPermutation ys zs
-    → IsStableBy (λ x y. is_lt (nat_cmp (prefix_of x.code) (prefix_of y.code))) xs ys → IsStableBy code_before ys zs
-    → ((k : ℕ) (d : Line) → 0 ≤ k → k + 1 < length zs → code_before (get_or zs (k + 1) d) (get_or zs k d) ≡ false)
-    → IsSortedLoad s (ops_of xs) zs
-twice-sorted s xs ys zs coded first second by_number by_code sorted =
-    let cy : All (IsCoded s) ys = All-permutation (IsCoded s) xs ys first coded in
-    let cz : All (IsCoded s) zs = All-permutation (IsCoded s) ys zs second cy in
+    by : (list_any (names ops key) xs ≡ false) ⊎ Named s ops key → result_for s given (lines_in ops ys) key old ≡ result_for s given (lines_in ops xs) key old
+    by (inl none) = unnamed s given ops key ys (sym (list_any-IsPermutation (names ops key) xs ys moved) ∙ none) old ∙ sym (unnamed s given ops key xs none old)
+    by (inr n) =
+        sym (filtered s given ops key (ties (rank_before ops) n.rank) ys (takes n ys ry) old) ∙ ap (λ order. result_for s given (lines_in ops order) key old) (stable n.rank)
+        ∙ filtered s given ops key (ties (rank_before ops) n.rank) xs (takes n xs rx) old
+
+-- ---- lines in file order
+
+pub counted-more : (line : ℕ) (ranks : List Rank) (r : Rank) → AreCounted line ranks → r.line ≡ line + length ranks → AreCounted line (ranks ++ r ∷ [])
+counted-more line [] r counted e = (omega arith, tt)
+counted-more line (q ∷ ranks) r counted e = (counted.0, counted-more (line + 1) ranks r counted.1 (omega arith))
+
+-- all of them are the load
+counted-lines : (ops : List Op) (line : ℕ) (ranks : List Rank) → AreCounted line ranks → line + length ranks ≡ length ops → lines_in ops ranks ≡ drop line ops
+counted-lines ops line [] counted long = sym (drop_of_length-le ops (omega arith))
+counted-lines ops line (r ∷ ranks) counted long =
+    ap (λ n. op_at ops n ∷ lines_in ops ranks) counted.0 ∙ ap (λ os. op_at ops line ∷ os) (counted-lines ops (line + 1) ranks counted.1 (omega arith))
+    ∙ sym (drop_more ops line (Delete []) (omega arith))
+
+none-below : (q : Rank) (line : ℕ) (ranks : List Rank) → q.line < line → AreCounted line ranks → AllByRecursion (λ r. same_line q r ≡ false) ranks
+none-below q line [] low counted = tt
+none-below q line (r ∷ ranks) low counted = (ne_eqb q.line r.line (λ e. absurd (omega (arith, counted.0))), none-below q (line + 1) ranks (omega arith) counted.1)
+
+counted-apart : (line : ℕ) (ranks : List Rank) → AreCounted line ranks → IsDistinct same_line ranks
+unfolding IsDistinct
+counted-apart line [] counted = tt
+counted-apart line (r ∷ ranks) counted = (none-below r (line + 1) ranks (omega (arith, counted.0)) counted.1, counted-apart (line + 1) ranks counted.1)
+
+-- ---- the sorted order
+
+flips : (a b : Rank) → same_line a b ≡ same_line b a
+flips a b = search (arith)
+
+pub sorted-order : (s : Layout) → schema_fault s.columns s.keys ≡ None → (ops : List Op) (xs ys : List Rank) → All (IsRanked s ops) xs → All (IsRanked s ops) ys → AreCounted 0 xs → length xs ≡ length ops
+    → IsPermutation xs ys → IsStableBy (rank_before ops) xs ys
+    → ((k : ℕ) (d : Rank) → 0 ≤ k → k + 1 < length ys → rank_before ops (get_or ys (k + 1) d) (get_or ys k d) ≡ false)
+    → IsOrder s ops ys
+sorted-order s valid ops xs ys rx ry counted long moved stable rises =
+    let all : lines_in ops xs ≡ ops = counted-lines ops 0 xs counted (omega (arith, long)) in
     record {
-      coded = cz;
-      rises = rise-coded s zs cz sorted;
-      same = λ given key old. stable-lines s ys zs code_before by_code code-ties cy cz given key old ∙ stable-lines s xs ys _ by_number number-ties coded cy given key old;
-      moved = IsPermutation-trans _ _ _ (IsPermutation-map (λ (line : Line). line.op) xs ys first) (IsPermutation-map (λ (line : Line). line.op) ys zs second);
+      ranked = ry;
+      apart = IsDistinct-IsPermutation same_line flips xs ys moved (counted-apart 0 xs counted);
+      sorted = record {
+        rises = rise-ranked s valid ops ys ry rises;
+        same = λ given key old. stable-order s ops xs ys stable moved rx ry given key old ∙ ap (λ os. result_for s given os key old) all;
+        moved = subst (λ os. IsPermutation os (lines_in ops ys)) all (IsPermutation-map (λ (r : Rank). op_at ops r.line) xs ys moved);
+      };
     }
 
--- one line more with its code
-pub coded-more : (s : Layout) (lines : List Line) (code : List ℕ) (op : Op) (key : List Value) → All (IsCoded s) lines → key ≡ key_named op → IsShortKey s (key_named op)
-    → code ≡ key_code s key → IsInOrder s key code → All (IsCoded s) (lines ++ record { code = code; op = op } ∷ [])
-coded-more s lines code op key all same short is order =
-    let line : Line = record { code = code; op = op } in
-    let coded : IsCoded s line = record { key = short; code = is ∙ ap (key_code s) same; order = subst (λ k. IsInOrder s k code) same order } in
-    All-push (IsCoded s) lines line all coded
+-- ---- the next line
 
-pub ops-more : (lines : List Line) (line : Line) (ops : List Op) → ops_of lines ≡ ops → ops_of (lines ++ line ∷ []) ≡ ops ++ line.op ∷ []
-ops-more lines line ops e = map-append (λ (l : Line). l.op) lines (line ∷ []) ∙ ap (λ os. os ++ line.op ∷ []) e
+-- lines of other numbers name other keys
+pub other-keys : (s : Layout) (ops : List Op) (a b : Rank) → IsRanked s ops a → IsRanked s ops b → (a.number == b.number) ≡ false → eq_by_cmp key_cmp (key_at ops a.line) (key_at ops b.line) ≡ false
+other-keys s ops a b ra rb other = by (eq_by_cmp key_cmp (key_at ops a.line) (key_at ops b.line)) refl
+  where
+    by : (t : Truth) → eq_by_cmp key_cmp (key_at ops a.line) (key_at ops b.line) ≡ t → eq_by_cmp key_cmp (key_at ops a.line) (key_at ops b.line) ≡ false
+    by false e = e
+    by true e =
+        let number : a.number ≡ b.number = ra.number ∙ ap (λ k. prefix_of (key_code s k)) (tells_apart key_exact (key_at ops a.line) (key_at ops b.line) e) ∙ sym rb.number in
+        let clash : true ≡ false = sym (eq-eqb a.number b.number number) ∙ other in
+        cc
+
+pub next-named : (ops : List Op) (key : List Value) (later : List Rank) (d : Rank) → 1 ≤ length later → eq_by_cmp key_cmp key (key_at ops (get_or later 0 d).line) ≡ names_next key (lines_in ops later)
+next-named ops key [] d some = absurd (omega arith)
+next-named ops key (next ∷ later) d some = refl
+
+-- ---- ranks of lines that are read
+
+pub ranked-more : (s : Layout) (ops : List Op) (ranks : List Rank) (r : Rank) → All (IsRanked s ops) ranks → IsRanked s ops r → All (IsRanked s ops) (ranks ++ r ∷ [])
+ranked-more s ops ranks r all is = All-push (IsRanked s ops) ranks r all is
+
+pub line-ranked : (s : Layout) (ops : List Op) (r : Rank) (key : List Value) → r.line < length ops → key ≡ key_at ops r.line → All (λ op. IsShortKey s (key_named op)) ops
+    → r.number ≡ prefix_of (key_code s key) → AreBytes (key_code s key) → IsRanked s ops r
+line-ranked s ops r key there same short number bytes = record {
+  within = there;
+  key = short r.line (Delete []) there;
+  number = number ∙ ap (λ k. prefix_of (key_code s k)) same;
+  bytes = subst (λ k. AreBytes (key_code s k)) same bytes;
+}

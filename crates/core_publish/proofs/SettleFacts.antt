@@ -24,8 +24,7 @@ use Rattle.pk_model.proofs.LoadLaws.{get-after}
 use Rattle.rowsets.specs.Live.{is_among}
 use Rattle.rowsets.specs.Loads.{IsWhole}
 use Rattle.rowsets.specs.Indexing.{CodeMove}
-use Rattle.core_publish.specs.declared.lines.Line.{Line}
-use Rattle.core_publish.specs.Lines.{IsShortKey, IsSortedLoad, ops_of}
+use Rattle.core_publish.specs.Lines.{IsShortKey, IsSortedLoad}
 use Rattle.core_publish.specs.Leaving.{HasResults}
 use Rattle.column_page.specs.declared.footers.Footer.{Footer}
 use Rattle.core_publish.specs.Prepared.{AreMovesOf, AreSealedOf, IsPrepared, files_of}
@@ -111,37 +110,37 @@ fewer (op ∷ ops) = by (fewer ops) (names_next (key_named op) ops)
     by rest true = omega arith
     by rest false = omega (arith, one (row_left op))
 
-module _ (s : Layout) (load : Load) (lawful : IsLawful s load) (whole : IsWhole s load) (ops : List Op) (e : ops ≡ load.ops) (lines : List Line) (sorted : IsSortedLoad s ops lines)
-    (rows : List (List Value)) (entries : List CodeMove) (left : HasResults s (ops_of lines) rows entries) where
-  fit : list_all (fits_line s load.given) (ops_of lines) ≡ true
-  fit = all-of _ _ (All-permutation (λ op. fits_line s load.given op ≡ true) ops (ops_of lines) sorted.moved (subst (All (λ op. fits_line s load.given op ≡ true)) (sym e) (each _ load.ops lawful.lines)))
+module _ (s : Layout) (load : Load) (lawful : IsLawful s load) (whole : IsWhole s load) (ops : List Op) (e : ops ≡ load.ops) (lines : List Op) (sorted : IsSortedLoad s ops lines)
+    (rows : List (List Value)) (entries : List CodeMove) (left : HasResults s lines rows entries) where
+  fit : list_all (fits_line s load.given) lines ≡ true
+  fit = all-of _ _ (All-permutation (λ op. fits_line s load.given op ≡ true) ops lines sorted.moved (subst (All (λ op. fits_line s load.given op ≡ true)) (sym e) (each _ load.ops lawful.lines)))
 
   settled-rows : rows ≡ values (after s load empty)
   settled-rows =
-      left.rows_are ∙ rows-after s load.given lawful.given whole (ops_of lines) sorted.rises fit
-      ∙ ap values (same_map key_total key_exact (after_lines s load.given (ops_of lines) empty) (after_lines s load.given load.ops empty) (λ k.
+      left.rows_are ∙ rows-after s load.given lawful.given whole lines sorted.rises fit
+      ∙ ap values (same_map key_total key_exact (after_lines s load.given lines empty) (after_lines s load.given load.ops empty) (λ k.
       let old = get {X = List Value} {R = key_cmp} empty k in
-      get-after s load.given (ops_of lines) empty k ∙ sorted.same load.given k old ∙ ap (λ os. result_for s load.given os k old) e ∙ sym (get-after s load.given load.ops empty k)))
+      get-after s load.given lines empty k ∙ sorted.same load.given k old ∙ ap (λ os. result_for s load.given os k old) e ∙ sym (get-after s load.given load.ops empty k)))
 
-  rise : AllRise (results (ops_of lines))
-  rise = all-rise (ops_of lines) sorted.rises
+  rise : AllRise (results lines)
+  rise = all-rise lines sorted.rises
 
   settled-moves : AreMovesOf s load rows entries
   settled-moves = record {
-    keys = keys_of (results (ops_of lines));
-    rise = keys-rise (results (ops_of lines)) rise;
+    keys = keys_of (results lines);
+    rise = keys-rise (results lines) rise;
     touched = λ k.
-        keys-touched (ops_of lines) sorted.rises k ∙ among-touches (ops_of lines) k ∙ any-moved _ ops (ops_of lines) sorted.moved ∙ ap (list_any _) e ∙ sym (among-touches load.ops k);
-    are = left.entries_are ∙ entries-are s (results (ops_of lines)) rows left.rows_are rise (own-keys s load.given lawful.given whole (ops_of lines) fit);
+        keys-touched lines sorted.rises k ∙ among-touches lines k ∙ any-moved _ ops lines sorted.moved ∙ ap (list_any _) e ∙ sym (among-touches load.ops k);
+    are = left.entries_are ∙ entries-are s (results lines) rows left.rows_are rise (own-keys s load.given lawful.given whole lines fit);
   }
 
   settled-rise : KeysRise s rows
-  settled-rise = subst (KeysRise s) (sym left.rows_are) (rows-rise s (results (ops_of lines)) rise (own-keys s load.given lawful.given whole (ops_of lines) fit))
+  settled-rise = subst (KeysRise s) (sym left.rows_are) (rows-rise s (results lines) rise (own-keys s load.given lawful.given whole lines fit))
 
   settled-few : length rows ≤ 262144
   settled-few =
-      let moved : length (ops_of lines) ≡ length ops = length_permutation ops (ops_of lines) sorted.moved in
-      omega (arith, lawful.count, ap length e, moved, ap length left.rows_are, fewer (ops_of lines))
+      let moved : length lines ≡ length ops = length_permutation ops lines sorted.moved in
+      omega (arith, lawful.count, ap length e, moved, ap length left.rows_are, fewer lines)
 
   settled-fit : schema_fault s.columns s.keys ≡ None → All (λ row. IsTrue (fits_row s row)) rows
   settled-fit valid = subst (All (λ row. IsTrue (fits_row s row))) (sym settled-rows) (rows-fit s (after s load empty) (loads-keep s load empty valid lawful none))
@@ -160,8 +159,8 @@ pub record Settled (s : Layout) (load : Load) (rows : List (List Value)) (entrie
   pub rise : KeysRise s rows
   pub few : length rows ≤ 262144
 
-pub settled : (s : Layout) (load : Load) → IsLawful s load → IsWhole s load → (ops : List Op) → ops ≡ load.ops → (lines : List Line) → IsSortedLoad s ops lines
-    → (rows : List (List Value)) (entries : List CodeMove) → HasResults s (ops_of lines) rows entries → schema_fault s.columns s.keys ≡ None → Settled s load rows entries
+pub settled : (s : Layout) (load : Load) → IsLawful s load → IsWhole s load → (ops : List Op) → ops ≡ load.ops → (lines : List Op) → IsSortedLoad s ops lines
+    → (rows : List (List Value)) (entries : List CodeMove) → HasResults s lines rows entries → schema_fault s.columns s.keys ≡ None → Settled s load rows entries
 settled s load lawful whole ops e lines sorted rows entries left valid = record {
   rows_are = settled-rows s load lawful whole ops e lines sorted rows entries left;
   moves = settled-moves s load lawful whole ops e lines sorted rows entries left;

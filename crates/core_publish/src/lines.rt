@@ -1,27 +1,32 @@
-ghost use Rattle.std.specs.Prelude.{◌≡◌, IfOk, All};
-ghost use Rattle.key_code.specs.KeyCode.{IsInOrder, key_code};
-ghost use Rattle.pk_values.specs.Schemas.{Layout};
+ghost use Rattle.std.specs.Prelude.{◌≡◌, ◌<◌, ◌∷◌, IfOk, All, None, length};
+ghost use Rattle.std.specs.Ordering.{eq_by_cmp};
+ghost use Rattle.key_code.specs.KeyCode.{key_code};
+ghost use Rattle.key_code.specs.Prefixes.{AreBytes, prefix_of};
+ghost use Rattle.pk_model.specs.Merges.{names_next};
 ghost use Rattle.pk_model.specs.Tables.{key_named};
-ghost use Rattle.core_publish.specs.Lines.{IsCoded, IsShortKey, IsSortedLoad, ops_of};
+ghost use Rattle.pk_values.specs.Order.{key_cmp};
+ghost use Rattle.pk_values.specs.Schemas.{Layout, schema_fault};
+ghost use Rattle.core_publish.specs.Lines.{AreCounted, IsOrder, IsRanked, IsShortKey, key_at, lines_in, op_at, rank_cmp};
 
 use index_level0::KeyBytes;
 use key_code::{KeyFault, encode, prefix};
 use pk_model::Op;
-use pk_values::{Key, Schema};
+use pk_values::{Key, Schema, Value};
 use std::alloc::{AllocError, Global};
+use std::cmp::Ordering;
 
-/// A line of a load, with the code of the key that it names.
-#[derive(Drop)]
-pub struct Line {
-    pub code: KeyBytes,
-    pub op: Op,
+/// The place of a line in its load, counted from 0, beside the first eight bytes of the code of the line's key, as a
+/// number.
+#[derive(Clone, Copy, Drop)]
+pub struct Rank {
+    pub number: u64,
+    pub line: usize,
 }
 
-// The code of a key that has one.
-fn code_of(alloc: Global, schema: &Schema, key: &Key) -> Result<KeyBytes, AllocError>
+/// The code of a key that has one.
+pub fn code_of(alloc: Global, schema: &Schema, key: &Key) -> Result<KeyBytes, AllocError>
     requires { IsShortKey schema.now key.now }
-    ensures code { IfOk result (λ code. code ≡ key_code schema.now key.now) }
-    ensures order { IfOk result (IsInOrder schema.now key.now) }
+    ensures { IfOk result (λ code. code ≡ key_code schema.now key.now) }
 {
     match encode(alloc, schema, key) {
         Ok(code) => Ok(code),
@@ -30,28 +35,85 @@ fn code_of(alloc: Global, schema: &Schema, key: &Key) -> Result<KeyBytes, AllocE
     }
 }
 
-/// Each line with its code.
-pub fn coded(alloc: Global, schema: &Schema, ops: Vec<Op>) -> Result<Vec<Line>, AllocError>
-    requires { All (λ op. IsShortKey schema.now (key_named op)) ops.items }
-    ensures ops { IfOk result (λ lines. ops_of lines.items ≡ ops.items) }
-    ensures coded { IfOk result (λ lines. All (IsCoded schema.now) lines.items) }
+// The number of a key's code.
+fn number_of(alloc: Global, schema: &Schema, key: &Key) -> Result<u64, AllocError>
+    requires { IsShortKey schema.now key.now }
+    ensures number { IfOk result (λ number. number ≡ prefix_of (key_code schema.now key.now)) }
+    ensures bytes { IfOk result (λ _. AreBytes (key_code schema.now key.now)) }
 {
-    let mut lines = Vec::with_capacity(alloc, ops.len())?;
-    for op in ops {
-        let code = code_of(alloc, schema, op.key())?;
-        lines.push(Line { code, op })?;
-    }
-    Ok(lines)
+    let code = code_of(alloc, schema, key)?;
+    Ok(prefix(&code))
 }
 
-/// Sorts lines by the codes of their keys, which is the order of the keys. Lines of one key stay in file order. The
-/// first eight bytes of the codes are sorted first, as numbers; the second sort then finds all in order but the lines
-/// of one number.
-pub fn sorted(mut lines: Vec<Line>) -> Result<Vec<Line>, AllocError>
-    ensures { IfOk result (λ sorted. (s : Layout) → All (IsCoded s) lines.items
-        → IsSortedLoad s (ops_of lines.items) sorted.items) }
+/// The line in a place.
+pub fn op_at(ops: &[Op], line: usize) -> &Op
+    requires { line < length ops.now }
+    ensures { result.now ≡ op_at ops.now line }
 {
-    lines.sort_by_cached_key(|line| prefix(&line.code))?;
-    lines.sort_by(|a, b| a.code.cmp(&b.code))?;
-    Ok(lines)
+    &ops[line]
+}
+
+/// Each line by its place, in file order.
+pub fn ranked(alloc: Global, schema: &Schema, ops: &[Op]) -> Result<Vec<Rank>, AllocError>
+    requires { All (λ op. IsShortKey schema.now (key_named op)) ops.now }
+    ensures ranked { IfOk result (λ ranks. All (IsRanked schema.now ops.now) ranks.items) }
+    ensures counted { IfOk result (λ ranks. AreCounted 0 ranks.items) }
+    ensures each { IfOk result (λ ranks. length ranks.items ≡ length ops.now) }
+{
+    let mut ranks = Vec::with_capacity(alloc, ops.len())?;
+    for line in 0..ops.len() {
+        let number = number_of(alloc, schema, op_at(ops, line).key())?;
+        ranks.push(Rank { number, line })?;
+    }
+    Ok(ranks)
+}
+
+// The cells of the key that a line names; none where there is no such line.
+fn key_at(ops: &[Op], line: usize) -> &[Value]
+    ensures { result.now ≡ key_at ops.now line }
+{
+    match ops.get(line) {
+        Some(op) => &op.key().cells,
+        None => &[],
+    }
+}
+
+// How two lines stand to each other: by their numbers, and where these are the same by their keys.
+fn cmp_ranks(ops: &[Op], a: &Rank, b: &Rank) -> Ordering
+    ensures { result ≡ rank_cmp ops.now a.now b.now }
+{
+    match a.number.cmp(&b.number) {
+        Ordering::Less => Ordering::Less,
+        Ordering::Equal => key_at(ops, a.line).cmp(&key_at(ops, b.line)),
+        Ordering::Greater => Ordering::Greater,
+    }
+}
+
+/// Lines in the order of their keys; those of one key stay in file order. No line moves, but its place among the ranks.
+pub fn in_order(ops: &[Op], mut ranks: Vec<Rank>) -> Result<Vec<Rank>, AllocError>
+    ensures { IfOk result (λ order. (s : Layout) → schema_fault s.columns s.keys ≡ None
+        → All (IsRanked s ops.now) ranks.items → AreCounted 0 ranks.items → length ranks.items ≡ length ops.now
+        → IsOrder s ops.now order.items) }
+{
+    ranks.sort_by(|a, b| cmp_ranks(ops, a, b))?;
+    Ok(ranks)
+}
+
+// Whether two lines name one key.
+fn name_one_key(ops: &[Op], a: &Rank, b: &Rank) -> bool
+    ensures { (s : Layout) → IsRanked s ops.now a.now → IsRanked s ops.now b.now
+        → result ≡ eq_by_cmp key_cmp (key_at ops.now a.now.line) (key_at ops.now b.now.line) }
+{
+    a.number == b.number && key_at(ops, a.line).cmp(&key_at(ops, b.line)).is_eq()
+}
+
+/// Whether the next line names the key of this one.
+pub fn is_named_next(ops: &[Op], rank: &Rank, later: &[Rank]) -> bool
+    ensures { (s : Layout) → All (IsRanked s ops.now) (rank.now ∷ later.now)
+        → result ≡ names_next (key_at ops.now rank.now.line) (lines_in ops.now later.now) }
+{
+    match later {
+        [next, ..] => name_one_key(ops, rank, next),
+        [] => false,
+    }
 }

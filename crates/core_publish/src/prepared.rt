@@ -13,7 +13,7 @@ ghost use Rattle.core_publish.specs.Publishing.{IsFrom, emptied, entry_back};
 
 use crate::entries::{number_back, number_from};
 use crate::files::write_files;
-use crate::lines::{coded, sorted};
+use crate::lines::{in_order, ranked};
 use crate::results::{Results, results_of};
 use dev_traits::{FileMaker, MakeFault};
 use index_level0::{KeyBytes, Place};
@@ -135,14 +135,16 @@ fn settled(alloc: Global, schema: &Schema, load: Load) -> Result<Results, AllocE
     // No schema has a fault.
     let _columns = schema.columns();
     let Load { given: _, ops } = load;
-    let lines = coded(alloc, schema, ops.into_vec())?;
-    let results = results_of(alloc, sorted(lines)?)?;
+    let ops = ops.into_vec();
+    let ranks = ranked(alloc, schema, &ops)?;
+    let order = in_order(&ops, ranks)?;
+    let results = results_of(alloc, schema, ops, &order)?;
     Ok(results)
 }
 
-/// Prepares a load of all columns, for any table of this schema. It sorts the lines once by the codes of their keys,
-/// keeps one result a key, as its last line leaves it, and writes the rows into files of 65,536 rows. No cell is
-/// copied.
+/// Prepares a load of all columns, for any table of this schema. It sorts the places of the lines once, by the first
+/// bytes of the codes of their keys and, where these are the same, by the keys, keeps one result a key, as its last
+/// line leaves it, and writes the rows into files of 65,536 rows. No cell is copied.
 ///
 /// # Errors
 /// `StoreFault` exactly where the maker failed, which it counted once. `Memory` where this call or the maker wants

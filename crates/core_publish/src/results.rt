@@ -1,16 +1,15 @@
-ghost use Rattle.std.specs.Prelude.{◌≡◌, ◌++◌, ◌∷◌, [], IfOk, OnOk, All, length};
-ghost use Rattle.pk_model.specs.Tables.{key_named};
-ghost use Rattle.pk_values.specs.Schemas.{Layout};
-ghost use Rattle.core_publish.specs.Lines.{IsCoded, code_next, ops_of};
-ghost use Rattle.core_publish.specs.Results.{place_at, placed, row_left, rows_left};
+ghost use Rattle.std.specs.Prelude.{◌≡◌, ◌<◌, ◌++◌, ◌∷◌, [], All, IfOk, OnOk, length, option_map, option_to_list};
+ghost use Rattle.std.specs.List.{IsDistinct};
+ghost use Rattle.core_publish.specs.Lines.{IsRanked, lines_in, same_line};
+ghost use Rattle.core_publish.specs.Results.{place_at, row_left};
 ghost use Rattle.core_publish.specs.Leaving.{HasResults, LeavesMore};
 
-use crate::lines::Line;
+use crate::lines::{Rank, code_of, is_named_next, op_at};
 use index_level0::{KeyBytes, Place};
 use pk_model::Op;
-use pk_values::{Items, Key, Row, Value};
+use pk_values::{Items, Key, Row, Schema, Value};
 use std::alloc::{AllocError, Global};
-use std::collections::VecDeque;
+use std::mem;
 
 /// How many rows a file has, but for the last one.
 pub const FILE_ROWS: usize = 65536;
@@ -44,68 +43,102 @@ impl Results {
         })
     }
 
-    // Adds the row of a key and the cells of its other columns, and answers its place.
-    fn add_row(&mut self, key: Key, cells: Items<Value>) -> Result<Place, AllocError>
-        ensures rows { OnOk result (self.new.rows.items ≡ self.old.rows.items ++ (key ++ cells) ∷ []) }
+    // Adds a row, and answers its place.
+    fn add_row(&mut self, row: Row) -> Result<Place, AllocError>
+        ensures rows { OnOk result (self.new.rows.items ≡ self.old.rows.items ++ row ∷ []) }
         ensures entries { OnOk result (self.new.entries.items ≡ self.old.entries.items) }
         ensures place { IfOk result (λ place. place ≡ place_at (length self.old.rows.items)) }
     {
         let place = place_at(self.rows.len());
-        let Key { cells: mut row } = key;
-        row.append(&mut cells.into_vec())?;
-        self.rows.push(Row { cells: row })?;
+        self.rows.push(row)?;
         Ok(place)
     }
 
-    // Adds what the last line of a key leaves there.
-    fn add(&mut self, line: Line) -> Result<(), AllocError>
-        ensures rows { OnOk result (self.new.rows.items
-            ≡ self.old.rows.items ++ rows_left ((key_named line.op, row_left line.op) ∷ [])) }
-        ensures entries { OnOk result ((s : Layout) → IsCoded s line → self.new.entries.items
-            ≡ self.old.entries.items
-            ++ placed s (length self.old.rows.items) ((key_named line.op, row_left line.op) ∷ [])) }
+    // Adds the code of a key and its row, if it has one.
+    fn add(&mut self, code: KeyBytes, row: Option<Row>) -> Result<(), AllocError>
+        ensures rows { OnOk result (self.new.rows.items ≡ self.old.rows.items ++ option_to_list row) }
+        ensures entries { OnOk result (self.new.entries.items ≡ self.old.entries.items
+            ++ (code, option_map (λ _. place_at (length self.old.rows.items)) row) ∷ []) }
     {
-        let Line { code, op } = line;
-        let place = match op {
-            Op::Delete { key: _key } => None,
-            Op::Upsert { key, cells } => Some(self.add_row(key, cells)?),
+        let place = match row {
+            Some(row) => Some(self.add_row(row)?),
+            None => None,
         };
         self.entries.push((code, place))?;
         Ok(())
     }
 }
 
-// Whether the next line has this code.
-fn is_next(code: &KeyBytes, lines: &VecDeque<Line>) -> bool
-    ensures { result ≡ code_next code.now lines.now.items }
+// Moves the cells of a key and the others into a row of their own. What they stood in is left empty, with its memory.
+fn moved_row(
+    alloc: Global,
+    key: &mut Key,
+    cells: &mut Items<Value>,
+) -> Result<Row, AllocError>
+    ensures { IfOk result (λ row. row ≡ key.old ++ cells.old) }
 {
-    match lines.front() {
-        Some(next) => *code == next.code,
-        None => false,
+    let mut others = mem::replace(cells, Items::new(alloc)).into_vec();
+    let count = key.cells.len().saturating_add(others.len());
+    let mut row = Vec::with_capacity(alloc, count)?;
+    row.append(&mut key.cells)?;
+    row.append(&mut others)?;
+    *cells = Items::from_vec(others);
+    Ok(Row { cells: row })
+}
+
+// Takes the row out that a line leaves, if it leaves one.
+fn take_row(alloc: Global, op: &mut Op) -> Result<Option<Row>, AllocError>
+    ensures { IfOk result (λ row. row ≡ row_left op.old) }
+{
+    match op {
+        Op::Delete { .. } => Ok(None),
+        Op::Upsert { key, cells } => Ok(Some(moved_row(alloc, key, cells)?)),
     }
 }
 
 // Adds what a line leaves, where no later line names its key.
-fn settle(line: Line, later: &VecDeque<Line>, results: &mut Results) -> Result<(), AllocError>
-    ensures { OnOk result ((s : Layout) → IsCoded s line → All (IsCoded s) later.now.items
-        → LeavesMore s (line.op ∷ ops_of later.now.items) (ops_of later.now.items) results.old results.new) }
+fn settle(
+    alloc: Global,
+    schema: &Schema,
+    ops: &mut Vec<Op>,
+    rank: &Rank,
+    later: &[Rank],
+    results: &mut Results,
+) -> Result<(), AllocError>
+    requires ranked { All (IsRanked schema.now ops.old.items) (rank.now ∷ later.now) }
+    requires apart { IsDistinct same_line (rank.now ∷ later.now) }
+    ensures leaves { OnOk result (LeavesMore schema.now (lines_in ops.old.items (rank.now ∷ later.now))
+        (lines_in ops.new.items later.now) results.old results.new) }
+    ensures ranked { OnOk result (All (IsRanked schema.now ops.new.items) later.now) }
 {
-    if is_next(&line.code, later) {
+    if is_named_next(ops, rank, later) {
         return Ok(());
     }
-    results.add(line)?;
+    let code = code_of(alloc, schema, op_at(ops, rank.line).key())?;
+    let row = take_row(alloc, &mut ops[rank.line])?;
+    results.add(code, row)?;
     Ok(())
 }
 
-/// What lines in the order of their keys leave. It takes them and moves their cells.
-pub fn results_of(alloc: Global, sorted: Vec<Line>) -> Result<Results, AllocError>
-    ensures { IfOk result (λ results. (s : Layout) → All (IsCoded s) sorted.items
-        → HasResults s (ops_of sorted.items) results.rows.items results.entries.items) }
+/// What lines leave that stand in these places, in the order of their keys. The cells move into rows of their own, in
+/// that order; the lines go away in file order, all at once.
+pub fn results_of(
+    alloc: Global,
+    schema: &Schema,
+    ops: Vec<Op>,
+    order: &[Rank],
+) -> Result<Results, AllocError>
+    requires ranked { All (IsRanked schema.now ops.items) order.now }
+    requires apart { IsDistinct same_line order.now }
+    ensures { IfOk result (λ results.
+        HasResults schema.now (lines_in ops.items order.now) results.rows.items results.entries.items) }
 {
-    let mut results = Results::with_room(alloc, sorted.len())?;
-    let mut lines = VecDeque::from(sorted);
-    while let Some(line) = lines.pop_front() {
-        settle(line, &lines, &mut results)?;
+    let mut ops = ops;
+    let mut results = Results::with_room(alloc, order.len())?;
+    let mut left = order;
+    while let Some((rank, later)) = left.split_first() {
+        settle(alloc, schema, &mut ops, rank, later, &mut results)?;
+        left = later;
     }
     Ok(results)
 }
