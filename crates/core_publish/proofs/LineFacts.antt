@@ -1,5 +1,5 @@
 -- Ranks that are sorted stand for lines in the order of their keys, and those of one key keep theirs.
-use Rattle.std.proofs.Common.{◌≡◌, refl, ap, sym, subst, ◌∙◌, ℕ, zero, suc, ◌+◌, ◌<◌, ◌≤◌, ◌==◌, List, [], ◌∷◌, ◌++◌, drop, length, get_or, filter, Option, None, inl, inr, Bool as Truth, true, false, ◌&&◌, ◌||◌, not, cond, T, arith, add-one, eq-eqb}
+use Rattle.std.proofs.Common.{◌≡◌, refl, ap, sym, subst, ◌∙◌, ℕ, zero, suc, ◌+◌, ◌<◌, ◌≤◌, List, [], ◌∷◌, ◌++◌, drop, length, get_or, filter, Option, None, inl, inr, Bool as Truth, true, false, ◌&&◌, ◌||◌, not, cond, T, arith, add-one}
 use Rattle.std.specs.Prelude.{All, IsPermutation, ◌⊎◌}
 use Rattle.std.specs.List.{AllByRecursion, IsDistinct, list_any}
 use Rattle.std.specs.List.Sorted.{IsStableBy, ties}
@@ -11,7 +11,7 @@ use Rattle.std.proofs.lemmas.Bool.{ne_eqb}
 use Rattle.std.proofs.lemmas.Cmp.{nat_cmp_total, on_total, ranked, then_total}
 use Rattle.std.proofs.lemmas.List.{drop_more}
 use Rattle.std.proofs.lemmas.List.Elements.{All-push}
-use Rattle.std.proofs.lemmas.List.Sorted.{IsPermutation-map, list_any-IsPermutation}
+use Rattle.std.proofs.lemmas.List.Sorted.{All-permutation, IsPermutation-map, IsPermutation-trans, list_any-IsPermutation}
 use Rattle.std.proofs.lemmas.Map.Keys.{IsDistinct-IsPermutation}
 use Rattle.std.proofs.lemmas.Map.Views.{tells_apart}
 use Rattle.std.proofs.Math.ListN.{drop_of_length-le}
@@ -132,21 +132,31 @@ key-ties s ops a b ra rb e =
     ∙ ap (λ o. ordering_then o (key_cmp (key_at ops a.line) (key_at ops a.line))) (tied_itself nat_cmp_total a.number) ∙ tied_itself key_total (key_at ops a.line) in
     (λ i. not (is_lt (there i)) && not (is_lt (back i)))
 
--- a stable sort gives each key the same result
-stable-order : (s : Layout) (ops : List Op) (xs ys : List Rank) → IsStableBy (rank_before ops) xs ys → IsPermutation xs ys → All (IsRanked s ops) xs → All (IsRanked s ops) ys
+-- by the numbers alone, too
+number-ties : (s : Layout) (ops : List Op) (a b : Rank) → IsRanked s ops a → IsRanked s ops b → key_at ops a.line ≡ key_at ops b.line → ties (λ x y. is_lt (nat_cmp x.number y.number)) a b ≡ true
+number-ties s ops a b ra rb e =
+    let number : a.number ≡ b.number = ra.number ∙ ap (λ k. prefix_of (key_code s k)) e ∙ sym rb.number in
+    let there : nat_cmp a.number b.number ≡ Equal = ap (nat_cmp a.number) (sym number) ∙ tied_itself nat_cmp_total a.number in
+    let back : nat_cmp b.number a.number ≡ Equal = ap (λ n. nat_cmp n a.number) (sym number) ∙ tied_itself nat_cmp_total a.number in
+    (λ i. not (is_lt (there i)) && not (is_lt (back i)))
+
+-- a stable sort in which lines of one key tie gives each key the same result
+stable-order : (s : Layout) (ops : List Op) (xs ys : List Rank) (lt : Rank → Rank → Truth) → IsStableBy lt xs ys
+    → ((a b : Rank) → IsRanked s ops a → IsRanked s ops b → key_at ops a.line ≡ key_at ops b.line → ties lt a b ≡ true)
+    → IsPermutation xs ys → All (IsRanked s ops) xs → All (IsRanked s ops) ys
     → (given : List ℕ) (key : List Value) (old : Option (List Value)) → result_for s given (lines_in ops ys) key old ≡ result_for s given (lines_in ops xs) key old
-stable-order s ops xs ys stable moved rx ry given key old = by (first_named s ops key xs rx)
+stable-order s ops xs ys lt stable tie moved rx ry given key old = by (first_named s ops key xs rx)
   where
-    takes : (n : Named s ops key) (order : List Rank) → All (IsRanked s ops) order → All (λ r. names ops key r ≡ true → ties (rank_before ops) n.rank r ≡ true) order
-    takes n order all i d lt is =
+    takes : (n : Named s ops key) (order : List Rank) → All (IsRanked s ops) order → All (λ r. names ops key r ≡ true → ties lt n.rank r ≡ true) order
+    takes n order all i d low is =
         let r = get_or order i d in
-        key-ties s ops n.rank r n.is (all i d lt) (sym (tells_apart key_exact key (key_at ops n.rank.line) n.names_it) ∙ tells_apart key_exact key (key_at ops r.line) is)
+        tie n.rank r n.is (all i d low) (sym (tells_apart key_exact key (key_at ops n.rank.line) n.names_it) ∙ tells_apart key_exact key (key_at ops r.line) is)
 
     by : (list_any (names ops key) xs ≡ false) ⊎ Named s ops key → result_for s given (lines_in ops ys) key old ≡ result_for s given (lines_in ops xs) key old
     by (inl none) = unnamed s given ops key ys (sym (list_any-IsPermutation (names ops key) xs ys moved) ∙ none) old ∙ sym (unnamed s given ops key xs none old)
     by (inr n) =
-        sym (filtered s given ops key (ties (rank_before ops) n.rank) ys (takes n ys ry) old) ∙ ap (λ order. result_for s given (lines_in ops order) key old) (stable n.rank)
-        ∙ filtered s given ops key (ties (rank_before ops) n.rank) xs (takes n xs rx) old
+        sym (filtered s given ops key (ties lt n.rank) ys (takes n ys ry) old) ∙ ap (λ order. result_for s given (lines_in ops order) key old) (stable n.rank)
+        ∙ filtered s given ops key (ties lt n.rank) xs (takes n xs rx) old
 
 -- ---- lines in file order
 
@@ -175,34 +185,29 @@ counted-apart line (r ∷ ranks) counted = (none-below r (line + 1) ranks (omega
 flips : (a b : Rank) → same_line a b ≡ same_line b a
 flips a b = search (arith)
 
-pub sorted-order : (s : Layout) → schema_fault s.columns s.keys ≡ None → (ops : List Op) (xs ys : List Rank) → All (IsRanked s ops) xs → All (IsRanked s ops) ys → AreCounted 0 xs → length xs ≡ length ops
-    → IsPermutation xs ys → IsStableBy (rank_before ops) xs ys
-    → ((k : ℕ) (d : Rank) → 0 ≤ k → k + 1 < length ys → rank_before ops (get_or ys (k + 1) d) (get_or ys k d) ≡ false)
-    → IsOrder s ops ys
-sorted-order s valid ops xs ys rx ry counted long moved stable rises =
+-- sorted by the numbers and then by the whole order
+pub sorted-order : (s : Layout) → schema_fault s.columns s.keys ≡ None → (ops : List Op) (xs ys zs : List Rank) → All (IsRanked s ops) xs → AreCounted 0 xs → length xs ≡ length ops
+    → IsPermutation xs ys → IsPermutation ys zs → IsStableBy (λ x y. is_lt (nat_cmp x.number y.number)) xs ys → IsStableBy (rank_before ops) ys zs
+    → ((k : ℕ) (d : Rank) → 0 ≤ k → k + 1 < length zs → rank_before ops (get_or zs (k + 1) d) (get_or zs k d) ≡ false)
+    → IsOrder s ops zs
+sorted-order s valid ops xs ys zs rx counted long first second by_number by_key rises =
     let all : lines_in ops xs ≡ ops = counted-lines ops 0 xs counted (omega (arith, long)) in
+    let moved : IsPermutation xs zs = IsPermutation-trans xs ys zs first second in
+    let ry : All (IsRanked s ops) ys = All-permutation (IsRanked s ops) xs ys first rx in
+    let rz : All (IsRanked s ops) zs = All-permutation (IsRanked s ops) ys zs second ry in
     record {
-      ranked = ry;
-      apart = IsDistinct-IsPermutation same_line flips xs ys moved (counted-apart 0 xs counted);
+      ranked = rz;
+      apart = IsDistinct-IsPermutation same_line flips xs zs moved (counted-apart 0 xs counted);
       sorted = record {
-        rises = rise-ranked s valid ops ys ry rises;
-        same = λ given key old. stable-order s ops xs ys stable moved rx ry given key old ∙ ap (λ os. result_for s given os key old) all;
-        moved = subst (λ os. IsPermutation os (lines_in ops ys)) all (IsPermutation-map (λ (r : Rank). op_at ops r.line) xs ys moved);
+        rises = rise-ranked s valid ops zs rz rises;
+        same = λ given key old.
+            stable-order s ops ys zs (rank_before ops) by_key (key-ties s ops) second ry rz given key old
+            ∙ stable-order s ops xs ys _ by_number (number-ties s ops) first rx ry given key old ∙ ap (λ os. result_for s given os key old) all;
+        moved = subst (λ os. IsPermutation os (lines_in ops zs)) all (IsPermutation-map (λ (r : Rank). op_at ops r.line) xs zs moved);
       };
     }
 
 -- ---- the next line
-
--- lines of other numbers name other keys
-pub other-keys : (s : Layout) (ops : List Op) (a b : Rank) → IsRanked s ops a → IsRanked s ops b → (a.number == b.number) ≡ false → eq_by_cmp key_cmp (key_at ops a.line) (key_at ops b.line) ≡ false
-other-keys s ops a b ra rb other = by (eq_by_cmp key_cmp (key_at ops a.line) (key_at ops b.line)) refl
-  where
-    by : (t : Truth) → eq_by_cmp key_cmp (key_at ops a.line) (key_at ops b.line) ≡ t → eq_by_cmp key_cmp (key_at ops a.line) (key_at ops b.line) ≡ false
-    by false e = e
-    by true e =
-        let number : a.number ≡ b.number = ra.number ∙ ap (λ k. prefix_of (key_code s k)) (tells_apart key_exact (key_at ops a.line) (key_at ops b.line) e) ∙ sym rb.number in
-        let clash : true ≡ false = sym (eq-eqb a.number b.number number) ∙ other in
-        cc
 
 pub next-named : (ops : List Op) (key : List Value) (later : List Rank) (d : Rank) → 1 ≤ length later → eq_by_cmp key_cmp key (key_at ops (get_or later 0 d).line) ≡ names_next key (lines_in ops later)
 next-named ops key [] d some = absurd (omega arith)

@@ -1,4 +1,4 @@
-ghost use Rattle.std.specs.Prelude.{◌≡◌, ◌<◌, ◌∷◌, IfOk, All, None, length};
+ghost use Rattle.std.specs.Prelude.{◌≡◌, ◌<◌, IfOk, All, None, length};
 ghost use Rattle.std.specs.Ordering.{eq_by_cmp};
 ghost use Rattle.key_code.specs.KeyCode.{key_code};
 ghost use Rattle.key_code.specs.Prefixes.{AreBytes, prefix_of};
@@ -90,27 +90,28 @@ fn cmp_ranks(ops: &[Op], a: &Rank, b: &Rank) -> Ordering
 }
 
 /// Lines in the order of their keys; those of one key stay in file order. No line moves, but its place among the ranks.
+/// They are sorted by their numbers first; the second sort then finds all in order but the lines of one number.
 pub fn in_order(ops: &[Op], mut ranks: Vec<Rank>) -> Result<Vec<Rank>, AllocError>
     ensures { IfOk result (λ order. (s : Layout) → schema_fault s.columns s.keys ≡ None
         → All (IsRanked s ops.now) ranks.items → AreCounted 0 ranks.items → length ranks.items ≡ length ops.now
         → IsOrder s ops.now order.items) }
 {
+    ranks.sort_by_key(|rank| rank.number)?;
     ranks.sort_by(|a, b| cmp_ranks(ops, a, b))?;
     Ok(ranks)
 }
 
 // Whether two lines name one key.
 fn name_one_key(ops: &[Op], a: &Rank, b: &Rank) -> bool
-    ensures { (s : Layout) → IsRanked s ops.now a.now → IsRanked s ops.now b.now
-        → result ≡ eq_by_cmp key_cmp (key_at ops.now a.now.line) (key_at ops.now b.now.line) }
+    ensures { result ≡ eq_by_cmp key_cmp (key_at ops.now a.now.line) (key_at ops.now b.now.line) }
 {
-    a.number == b.number && key_at(ops, a.line).cmp(&key_at(ops, b.line)).is_eq()
+    key_at(ops, a.line).cmp(&key_at(ops, b.line)).is_eq()
 }
 
-/// Whether the next line names the key of this one.
+/// Whether the next line names the key of this one. It looks at both keys, so the next line's is at hand when its turn
+/// comes.
 pub fn is_named_next(ops: &[Op], rank: &Rank, later: &[Rank]) -> bool
-    ensures { (s : Layout) → All (IsRanked s ops.now) (rank.now ∷ later.now)
-        → result ≡ names_next (key_at ops.now rank.now.line) (lines_in ops.now later.now) }
+    ensures { result ≡ names_next (key_at ops.now rank.now.line) (lines_in ops.now later.now) }
 {
     match later {
         [next, ..] => name_one_key(ops, rank, next),

@@ -144,7 +144,8 @@ fn settled(alloc: Global, schema: &Schema, load: Load) -> Result<Results, AllocE
 
 /// Prepares a load of all columns, for any table of this schema. It sorts the places of the lines once, by the first
 /// bytes of the codes of their keys and, where these are the same, by the keys, keeps one result a key, as its last
-/// line leaves it, and writes the rows into files of 65,536 rows. No cell is copied.
+/// line leaves it, and writes the rows into files of 65,536 rows. No cell is copied. The lines' own memory, whose cells
+/// went into rows, is let go when all rows are made.
 ///
 /// # Errors
 /// `StoreFault` exactly where the maker failed, which it counted once. `Memory` where this call or the maker wants

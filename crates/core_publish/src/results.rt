@@ -70,11 +70,7 @@ impl Results {
 }
 
 // Moves the cells of a key and the others into a row of their own. What they stood in is left empty, with its memory.
-fn moved_row(
-    alloc: Global,
-    key: &mut Key,
-    cells: &mut Items<Value>,
-) -> Result<Row, AllocError>
+fn moved_row(alloc: Global, key: &mut Key, cells: &mut Items<Value>) -> Result<Row, AllocError>
     ensures { IfOk result (λ row. row ≡ key.old ++ cells.old) }
 {
     let mut others = mem::replace(cells, Items::new(alloc)).into_vec();
