@@ -1,5 +1,5 @@
 -- What one line more leaves in rows and entries.
-use Rattle.std.proofs.Common.{◌≡◌, refl, ap, sym, subst, ◌∙◌, ℕ, suc, ◌+◌, ◌<◌, List, [], ◌∷◌, ◌++◌, length, get_or, set, Option, Some, None, true, false, cond, append_assoc, length-append, arith}
+use Rattle.std.proofs.Common.{◌≡◌, refl, ap, sym, subst, ◌∙◌, ℕ, ◌+◌, ◌<◌, List, [], ◌∷◌, ◌++◌, length, get_or, set, Option, Some, None, true, false, cond, append_assoc, length-append, arith}
 use Rattle.std.specs.Prelude.{All, option_map, option_to_list}
 use Rattle.std.specs.List.{AllByRecursion, IsDistinct}
 use Rattle.std.proofs.lemmas.Bool.{eqb-false}
@@ -13,7 +13,6 @@ use Rattle.pk_model.specs.Merges.{names_next}
 use Rattle.pk_model.specs.Tables.{key_named}
 use Rattle.pk_model.specs.declared.calls.Op.{Op}
 use Rattle.pk_model.specs.declared.calls.Op.TheVariants.{Delete}
-use Rattle.rowsets.specs.Indexing.{CodeMove}
 use Rattle.core_publish.specs.declared.lines.Rank.{Rank}
 use Rattle.core_publish.specs.declared.results.Results.{Results}
 use Rattle.core_publish.specs.Lines.{IsRanked, IsShortKey, key_at, lines_in, op_at, same_line}

@@ -1,10 +1,10 @@
 -- Ranks that are sorted stand for lines in the order of their keys, and those of one key keep theirs.
-use Rattle.std.proofs.Common.{◌≡◌, refl, ap, sym, subst, ◌∙◌, ℕ, zero, suc, ◌+◌, ◌<◌, ◌≤◌, List, [], ◌∷◌, ◌++◌, drop, length, get_or, filter, Option, None, inl, inr, Bool as Truth, true, false, ◌&&◌, ◌||◌, not, cond, T, arith, add-one}
+use Rattle.std.proofs.Common.{◌≡◌, refl, ap, sym, subst, ◌∙◌, ℕ, suc, ◌+◌, ◌<◌, ◌≤◌, List, [], ◌∷◌, ◌++◌, drop, length, get_or, filter, Option, None, inl, inr, Bool as Truth, true, false, ◌&&◌, ◌||◌, not, cond, T, arith, add-one}
 use Rattle.std.specs.Prelude.{All, IsPermutation, ◌⊎◌}
 use Rattle.std.specs.List.{AllByRecursion, IsDistinct, list_any}
 use Rattle.std.specs.List.Sorted.{IsStableBy, ties}
 use Rattle.std.specs.Cmp.{IsTotalOrder, tied_itself}
-use Rattle.std.specs.Ordering.{eq_by_cmp, is_eq, is_le, is_lt, nat_cmp, ordering_reverse, ordering_then}
+use Rattle.std.specs.Ordering.{eq_by_cmp, is_le, is_lt, nat_cmp, ordering_reverse, ordering_then}
 use Rattle.std.specs.declared.cmp.Ordering.{Ordering}
 use Rattle.std.specs.declared.cmp.Ordering.TheVariants.{Less, Equal, Greater}
 use Rattle.std.proofs.lemmas.Bool.{ne_eqb}
@@ -30,7 +30,7 @@ use Rattle.pk_model.specs.declared.calls.Op.{Op}
 use Rattle.pk_model.specs.declared.calls.Op.TheVariants.{Delete}
 use Rattle.pk_model.proofs.RunLaws as run
 use Rattle.core_publish.specs.declared.lines.Rank.{Rank}
-use Rattle.core_publish.specs.Lines.{AreCounted, IsOrder, IsRanked, IsShortKey, IsSortedLoad, key_at, lines_in, op_at, rank_cmp, same_line}
+use Rattle.core_publish.specs.Lines.{AreCounted, IsOrder, IsRanked, IsShortKey, key_at, lines_in, op_at, rank_cmp, same_line}
 
 -- ---- the order of ranks
 

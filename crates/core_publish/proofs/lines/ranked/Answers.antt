@@ -1,4 +1,4 @@
-use Rattle.std.proofs.Common.{◌≡◌, ◌∙◌, ◌++◌, ◌∷◌, [], ap, sym, subst, length, length-append, arith}
+use Rattle.std.proofs.Common.{◌∙◌, ◌∷◌, [], ap, sym, subst, length, length-append, arith}
 use Rattle.std.specs.Prelude.{All}
 use Rattle.pk_model.specs.Tables.{key_named}
 use Rattle.core_publish.specs.Lines.{AreCounted, IsRanked}
