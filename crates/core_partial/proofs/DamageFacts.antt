@@ -11,7 +11,9 @@ use Rattle.tablet_state.specs.Snapshots.{SameButReads}
 use Rattle.tablet_state.specs.State.{SegmentView, segment_of}
 use Rattle.tablet_state.proofs.Lending.{lent_found}
 use Rattle.core_partial.specs.Again.{Remakes, RemakesMore}
-use Rattle.core_partial.specs.Moving.{AsksAt, AtPlace, HasOtherAt, IsAstray, IsBlockOf, IsBroken, IsOldAt, IsReadDamage, IsRowAt, asked_now, is_moved_key, moved_keys}
+use Rattle.core_partial.specs.Moving.{AreOldsNow, AsksAt, AtPlace, HasOtherAt, IsAstray, IsBlockOf, IsBroken, IsMadeOfNow, IsOldAt, IsReadDamage, IsRemade, IsRowAt, asked_now, is_moved_key, moved_keys}
+use Rattle.core_partial.specs.Prepared.{AgainView, PreparedPartialView}
+use Rattle.core_partial.specs.Publishing.{IsHeldWith, IsWrongFor}
 use Rattle.core_partial.specs.declared.again.Remade.{Remade}
 use Rattle.core_partial.specs.declared.keys.PreparedKey.{PreparedKey}
 
@@ -102,3 +104,29 @@ damage_lent c now segs later v keys i key d contents same at h = go (subst (λ (
     go : IsReadDamage c later (moved_keys c v (key ∷ [])) d → IsReadDamage c segs (moved_keys c v keys) d
     go (inl a) = inl (record { told = a.told; key = a.key; place = a.place; asks = asks-among c (is_moved_key c v) keys i key a.key a.place at a.asks; wrong = other {a.key} {a.place} a.wrong })
     go (inr b) = inr (record { key = b.key; place = b.place; asks = asks-among c (is_moved_key c v) keys i key b.key b.place at b.asks; block = block-lent c.schema segs later b.place d same b.block })
+
+-- ---- all keys that moved
+
+olds-lent : (c : Contents) (segs now : List SegmentView) (ks : List PreparedKey) (os : List (Option (List Value))) → SameButReads segs now → AreOldsNow c now ks os → AreOldsNow c segs ks os
+olds-lent c segs now [] [] same h = tt
+olds-lent c segs now [] (o ∷ os) same h = absurd h
+olds-lent c segs now (k ∷ ks) [] same h = absurd h
+olds-lent c segs now (k ∷ ks) (o ∷ os) same h = (old-lent c segs now k.key (asked_now c k) o same h.0, olds-lent c segs now ks os same h.1)
+
+made-lent : (c : Contents) (segs now : List SegmentView) (given : List ℕ) (ks : List PreparedKey) (again : AgainView) → SameButReads segs now → IsMadeOfNow c now given ks again → IsMadeOfNow c segs given ks again
+made-lent c segs now given ks again same h = record { olds = h.olds; are = olds-lent c segs now ks h.olds same h.are; rows_are = h.rows_are }
+
+pub remade_lent : (c now : Contents) (segs later : List SegmentView) (p : PreparedPartialView) (again : AgainView) → now ≡ c → SameButReads segs later → IsRemade now later p again → IsRemade c segs p again
+remade_lent c now segs later p again contents same h =
+    let here : IsRemade c later p again = subst (λ (x : Contents). IsRemade x later p again) contents h in
+    record { is = here.is; read = made-lent c segs later p.load.given (moved_keys c p.version p.keys) again same here.read }
+
+pub held_lent : (c now : Contents) (segs later : List SegmentView) (p : PreparedPartialView) (next : Contents) → now ≡ c → SameButReads segs later → IsHeldWith now later p next → IsHeldWith c segs p next
+held_lent c now segs later p next contents same h =
+    let here : IsHeldWith c later p next = subst (λ (x : Contents). IsHeldWith x later p next) contents h in
+    record { again = here.again; is = remade_lent c c segs later p here.again refl same here.is; current = here.current; body = here.body; next_is = here.next_is; led = here.led }
+
+pub wrong_lent : (c now : Contents) (segs later : List SegmentView) (p : PreparedPartialView) → now ≡ c → SameButReads segs later → IsWrongFor now later p → IsWrongFor c segs p
+wrong_lent c now segs later p contents same h =
+    let here : IsWrongFor c later p = subst (λ (x : Contents). IsWrongFor x later p) contents h in
+    record { again = here.again; is = remade_lent c c segs later p here.again refl same here.is; wrong = here.wrong }

@@ -11,5 +11,6 @@ pub mod ReadFacts
 pub mod DamageFacts
 pub mod KeyFacts
 pub mod FewFacts
+pub mod TakenFacts
 pub mod OldFacts
 pub mod MakingFacts
