@@ -12,5 +12,6 @@ pub mod DamageFacts
 pub mod KeyFacts
 pub mod FewFacts
 pub mod TakenFacts
+pub mod LocateFacts
 pub mod OldFacts
 pub mod MakingFacts
