@@ -12,6 +12,7 @@ pub mod DamageFacts
 pub mod KeyFacts
 pub mod FewFacts
 pub mod TakenFacts
+pub mod AgainFacts
 pub mod LocateFacts
 pub mod OldFacts
 pub mod MakingFacts
