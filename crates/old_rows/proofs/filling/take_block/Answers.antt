@@ -1,7 +1,11 @@
 use Rattle.std.proofs.Common.{◌≡◌, ap, sym, subst, ◌∙◌, ◌+◌, ◌/◌, ◌<◌, ℕ, length, arith}
 use Rattle.snapshot_scan.specs.Parts.{PartView}
+use Rattle.snapshot_scan.specs.Snapshots.{SnapshotView}
+use Rattle.segment_read.proofs.Scanning.{if_ok_so}
+use Rattle.snapshot_scan.proofs.SnapFacts.{if_err_so}
 use Rattle.segment_read.proofs.FooterFacts.{row_inside}
-use Rattle.old_rows.proofs.ReadingFacts.{first_place, no-file, on-damage, part-there, past-file, some-part, to-part}
+use Rattle.old_rows.proofs.OneFacts.{block-fills, block-misses, cause-after, now-there, one-block, one-cause, one-same}
+use Rattle.old_rows.proofs.ReadingFacts.{broken-block, first_place, no-file, on-damage, part-there, past-file, some-part, to-part}
 use Rattle.old_rows.proofs.filling.take_block.Goals as goal
 
 pub returns-in_default-clause-damaged : goal.returns-in_default-clause-damaged
@@ -22,3 +26,24 @@ returns-then-place-fields-clause-damaged g c =
     on-damage c.astray-then-place-fields.result _ c.astray-then-place-fields.ensures
     (past-file c.args.snapshot.now c.args.keys.now c.args.wanted.now c.requires.some c.requires.keys c.in-Some.i is
     (omega (arith, c.if-place-fields.true, ap (λ f. f.rows) c.fields.ensures.fields, ap (λ f. f.rows) footer)))
+
+pub returns-in_err-rows-clause-damaged : goal.returns-in_err-rows-clause-damaged
+returns-in_err-rows-clause-damaged g c =
+    let is = c.requires.found.only (first_place c.args.wanted.now).segment c.in-Some.i (sym c.part_of.ensures ∙ c.in-Some.is) in
+    broken-block c.args.snapshot.now c.args.keys.now c.args.wanted.now c.requires.some c.requires.keys c.in-Some.i is _
+    (some-part c.args.snapshot.now.parts _ c.in-Some.i _ is c.in_err-rows.ensures.damaged) (some-part c.args.snapshot.now.parts _ c.in-Some.i _ is c.in_err-rows.ensures.intact)
+
+pub returns-in_err-rows-clause-reads : goal.returns-in_err-rows-clause-reads
+returns-in_err-rows-clause-reads g c = ?
+
+pub returns-clause-filled : goal.returns-clause-filled
+returns-clause-filled g c = ?
+
+pub take_rows-requires-clause-fit : goal.take_rows-requires-clause-fit
+take_rows-requires-clause-fit g c = ?
+
+pub dead-requires : goal.dead-requires
+dead-requires g c = ?
+
+pub written_rows-requires-clause-block : goal.written_rows-requires-clause-block
+written_rows-requires-clause-block g c = ?
