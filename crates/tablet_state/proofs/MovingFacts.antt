@@ -1,5 +1,5 @@
 -- Places of earlier versions that are still live there, and copies of segments.
-use Rattle.std.proofs.Common.{◌≡◌, refl, ap, sym, subst, ◌∙◌, ℕ, zero, suc, ◌+◌, ◌-◌, ◌^◌, ◌<◌, ◌≤◌, min, List, [], ◌∷◌, ◌++◌, length, length-append, map, slice_get, slice_set, Option, Some, None, Bool, true, false, ◌&&◌, ◌==◌, nat_lt, nat_le, not, cond, if◌then◌else◌, IfSome, arith}
+use Rattle.std.proofs.Common.{◌≡◌, refl, ap, sym, subst, ◌∙◌, ℕ, zero, suc, ◌+◌, ◌-◌, ◌^◌, ◌<◌, ◌≤◌, min, List, [], ◌∷◌, ◌++◌, length, length-append, map, slice_get, slice_set, Option, Some, None, Bool, true, false, ◌&&◌, ◌==◌, nat_lt, nat_le, not, cond, if◌then◌else◌, IfSome, IsSome, arith}
 use Rattle.std.specs.List.{AllByRecursion, list_any}
 use Rattle.std.specs.FinMap.{get}
 use Rattle.std.proofs.lemmas.Bool.{and_parts, and_from, ltb-true, ltb-false, lt-ltb, leb-true, leb-false, eqb-true, eq-eqb, ne_eqb}
@@ -244,6 +244,10 @@ pub total_set : (gs : List SegmentView) (i : ℕ) (old new : SegmentView) → sl
 total_set [] i old new at le = absurd (none_some old at)
 total_set (g ∷ gs) zero old new at le = let same = ap (λ (x : SegmentView). x.reader.reads) (some_one g old at) in omega arith
 total_set (g ∷ gs) (suc i) old new at le = let more = total_set gs i old new at le in omega arith
+
+pub told_of : {X : Type 0} (o : Option X) (x : X) → IsSome o → ((y : X) → o ≡ Some y → y ≡ x) → o ≡ Some x
+told_of None x some is = absurd (cc some)
+told_of (Some y) x some is = ap Some (is y refl)
 
 pub set_same : (gs : List SegmentView) (i : ℕ) (old new : SegmentView) → slice_get gs i ≡ Some old → new ≡ old → slice_set gs i new ≡ gs
 set_same [] i old new at same = absurd (none_some old at)
