@@ -34,7 +34,7 @@ fn make_key(
 {
     let Folded { code, key, change } = key;
     let row = change.apply(alloc, schema, given, None, &key, old)?;
-    let place = made.results.add(code, row)?;
+    let place = made.results.add(code.copy(), row)?;
     made.keys.push(PreparedKey {
         code,
         key,
