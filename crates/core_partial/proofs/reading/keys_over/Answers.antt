@@ -1,21 +1,26 @@
-use Rattle.std.proofs.Common.{◌≡◌, ap, sym, subst, ◌∙◌, length, None, refl}
+use Rattle.std.proofs.Common.{◌≡◌, ap, sym, subst, ◌∙◌, All, length, None, refl}
+use Rattle.std.specs.List.{AllByRecursion}
+use Rattle.pk_model.specs.Tables.{key_named}
+use Rattle.partial_loads.specs.Lines.{IsShortKey}
 use Rattle.std.specs.Prelude.{Err}
 use Rattle.std.proofs.lemmas.Result.{err_from_is_err_and}
 use Rattle.pk_values.specs.Schemas.{Layout, schema_fault}
 use Rattle.core_publish.proofs.SettleFacts.{short-keys}
-use Rattle.partial_loads.specs.Folded.{AreFolded}
+use Rattle.partial_loads.specs.Folded.{AreFolded, HasCode}
 use Rattle.partial_loads.specs.Olds.{AreOlds}
 use Rattle.old_rows.specs.Reading.{AreOldsRead}
 use Rattle.core_partial.specs.Found.{FoundView}
 use Rattle.core_partial.specs.Making.{AreMadeKeys}
 use Rattle.core_partial.specs.Preparing.{found_in}
 use Rattle.core_partial.proofs.OldFacts.{as-many, found-damage, olds-read, reads-found, undamaged}
-use Rattle.core_partial.proofs.PrepareFacts.{cause-from, found-keys, made-of-read, none-asked, on-damage, over-found}
+use Rattle.old_rows.proofs.OneFacts.{cause-err}
+use Rattle.core_partial.proofs.PrepareFacts.{found-keys, made-of-read, none-asked, on-damage, over-found}
 use Rattle.core_partial.proofs.reading.keys_over.Goals as goal
 
 pub fold_lines-requires : goal.fold_lines-requires
 fold_lines-requires g c =
-    subst (λ (s : Layout). All (λ op. IsShortKey s (key_named op)) c.args.ops.items) (sym c.schema-2.ensures) (short-keys c.args.snapshot.now.schema (record { given = c.args.given.now; ops = c.args.ops.items }) c.args.ops.items refl c.requires.lawful)
+    let short = short-keys c.args.snapshot.now.schema (record { given = c.args.given.now; ops = c.args.ops.items }) c.args.ops.items refl c.requires.lawful in
+    subst (λ (s : Layout). All (λ op. IsShortKey s (key_named op)) c.args.ops.items) (sym c.schema-2.ensures) (λ i d lt. let h = short i d lt in record { fits = h.fits; short = h.short })
 
 pub read_olds-requires : goal.read_olds-requires
 read_olds-requires g c =
