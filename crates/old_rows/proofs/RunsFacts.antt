@@ -42,8 +42,8 @@ some-left n [] lt = absurd (omega arith)
 some-left zero (w ∷ ws) lt = (w, ws, refl)
 some-left (suc n) (w ∷ ws) lt = some-left n ws (omega arith)
 
-head_is : (a b : Wanted) (as bs : List Wanted) → a ∷ as ≡ b ∷ bs → a ≡ b
-head_is a b as bs e = cc
+head_is : (a b : Wanted) (xs ys : List Wanted) → a ∷ xs ≡ b ∷ ys → a ≡ b
+head_is a b xs ys e = cc
 
 pub take-all : (n : ℕ) (ws : List Wanted) → length ws ≤ n → take n ws ≡ ws
 take-all zero [] le = refl

@@ -1,7 +1,9 @@
-use Rattle.std.proofs.Common.{◌≡◌, ap, sym, subst, ◌∙◌, ◌+◌, ◌/◌, ◌<◌, ℕ, All, IsTrue, length, arith}
+use Rattle.std.proofs.Common.{◌≡◌, ap, sym, subst, ◌∙◌, ◌+◌, ◌/◌, ◌<◌, ℕ, All, IsTrue, length, true, arith}
 use Rattle.std.specs.Prelude.{Err}
 use Rattle.std.proofs.lemmas.Result.{err_from_is_err_and}
 use Rattle.pk_values.specs.Schemas.{Layout, fits_row}
+use Rattle.column_page.specs.Footers.{is_footer}
+use Rattle.column_page.specs.declared.footers.Footer.{Footer}
 use Rattle.snapshot_scan.specs.Parts.{PartView}
 use Rattle.snapshot_scan.specs.Snapshots.{SnapshotView}
 use Rattle.segment_read.proofs.Scanning.{if_ok_so}
@@ -35,7 +37,7 @@ written_rows-requires-clause-block g c =
     let is = c.requires.found.only (first_place c.args.wanted.now).segment c.in-Some.i (sym c.part_of.ensures ∙ c.in-Some.is) in
     let footer = some-part c.args.snapshot.now.parts _ c.in-Some.i (λ part. c.footer.result.now ≡ part.footer) is c.footer.ensures in
     to-part c.args.snapshot.now.parts _ c.in-Some.i (λ part. (first_place c.args.wanted.now).row / 1024 < length part.footer.blocks) is
-    (row_inside is.part.footer (first_place c.args.wanted.now).row ? (omega (arith, c.if-place-fields.false, ap (λ f. f.rows) c.fields.ensures.fields, ap (λ f. f.rows) footer))).0
+    (row_inside is.part.footer (first_place c.args.wanted.now).row (subst (λ (f : Footer). is_footer f ≡ true) footer c.fields.ensures.valid) (omega (arith, c.if-place-fields.false, ap (λ f. f.rows) c.fields.ensures.fields, ap (λ f. f.rows) footer))).0
 
 pub returns-in_err-rows-clause-damaged : goal.returns-in_err-rows-clause-damaged
 returns-in_err-rows-clause-damaged g c =
