@@ -29,6 +29,9 @@ clash b e f = cc (sym e ∙ f)
 pub at-index : {X : Type 0} (xs : List X) (i : ℕ) (x : X) → i < length xs → x ≡ get_or xs i x → slice_get xs i ≡ Some x
 at-index xs i x lt is = slice_get-get_or xs i x lt ∙ ap Some (sym is)
 
+pub taken-key : (s : Layout) (rows : List (List Value)) (dead : List ℕ) (row : ℕ) (f g : Folded) (found : List Value) → f ≡ g → IsTaken s rows dead row g.key found → IsTaken s rows dead row f.key found
+taken-key s rows dead row f g found e h = subst (λ (x : Folded). IsTaken s rows dead row x.key found) (sym e) h
+
 -- the first of these are filled in
 abbrev pub FillsFirst : Layout → List (List Value) → List ℕ → List Folded → List Wanted → List Wanted → Olds → Olds → Type 0
 FillsFirst s rows dead keys wanted first old new = (v : SnapshotView) (done : List Wanted)
