@@ -1,6 +1,6 @@
 -- What reading one block for its wanted rows comes to, and how it fails.
-use Rattle.std.proofs.Common.{◌≡◌, ◌≢◌, ◌⊎◌, inl, inr, refl, ap, sym, subst, ◌∙◌, ℕ, zero, suc, ◌+◌, ◌/◌, ◌%◌, ◌<◌, ◌≤◌, List, [], ◌∷◌, ◌++◌, length, get_or, Option, Some, None, IfSome, slice_get, true, arith}
-use Rattle.std.specs.Prelude.{All, Err, IfErr, Ok, Result}
+use Rattle.std.proofs.Common.{◌≡◌, inl, inr, refl, ap, sym, subst, ◌∙◌, ℕ, zero, suc, ◌/◌, ◌<◌, ◌≤◌, List, [], ◌∷◌, ◌++◌, length, get_or, Some, None, IfSome, slice_get, true, arith}
+use Rattle.std.specs.Prelude.{All}
 use Rattle.std.proofs.lemmas.Option.{slice_get-get_or}
 use Rattle.column_page.specs.Footers.{is_footer}
 use Rattle.column_page.specs.declared.footers.Footer.{Footer}
@@ -9,7 +9,6 @@ use Rattle.dev_traits.specs.declared.faults.Damaged.{Damaged}
 use Rattle.dev_traits.specs.declared.faults.ReadFault.{ReadFault}
 use Rattle.dev_traits.specs.declared.faults.ReadFault.TheVariants as read
 use Rattle.index_level0.specs.declared.place.Place.{Place}
-use Rattle.pk_values.specs.Schemas.{Layout}
 use Rattle.pk_values.specs.declared.cells.Value.{Value}
 use Rattle.rowsets.specs.Live.{Files, HasKey}
 use Rattle.segment_read.specs.Reads.{OnDamage}
@@ -19,8 +18,8 @@ use Rattle.snapshot_scan.specs.Snapshots.{SnapshotView}
 use Rattle.partial_loads.specs.declared.changes.KeyChange.TheVariants.{Keep}
 use Rattle.partial_loads.specs.declared.folds.Folded.{Folded}
 use Rattle.old_rows.specs.PartsByFile.{FindsParts, IsPartOfFile, found_part}
-use Rattle.old_rows.specs.Reading.{AreFilled, HaveKeys, IsLost, IsReadingDamage, IsWrongPlace, Olds, TellsRows, index_damage, live_at}
-use Rattle.old_rows.specs.Taking.{FillsMore, MayMiss, MissesOne}
+use Rattle.old_rows.specs.Reading.{AreFilled, HaveKeys, IsReadingDamage, IsWrongPlace, Olds, TellsRows, index_damage, live_at}
+use Rattle.old_rows.specs.Taking.{FillsMore, MayMiss}
 use Rattle.old_rows.specs.Wanted.{InOneBlock, block_of}
 use Rattle.old_rows.specs.declared.parts_by_file.PartsByFile.{PartsByFile}
 use Rattle.old_rows.specs.declared.wanted.Wanted.{Wanted}

@@ -1,12 +1,11 @@
 -- A run of wanted rows among all: it stands in one block, and what was filled in and read with it.
 use Rattle.std.proofs.Common.{◌≡◌, refl, ap, sym, subst, ◌∙◌, ℕ, zero, suc, ◌+◌, ◌-◌, ◌<◌, ◌≤◌, List, [], ◌∷◌, ◌++◌, map, length, take, drop, arith}
-use Rattle.std.specs.Prelude.{All, Err, IfErr, IsErrOf, Ok, Result}
+use Rattle.std.specs.Prelude.{All, Ok, Result}
 use Rattle.std.proofs.lemmas.List.Elements.{All-cons, All-nil}
 use Rattle.dev_traits.specs.declared.faults.ReadFault.{ReadFault}
 use Rattle.dev_traits.specs.declared.faults.ReadFault.TheVariants as read
 use Rattle.segment_read.specs.Reads.{OnDamage}
-use Rattle.snapshot_scan.specs.Parts.{PartView}
-use Rattle.snapshot_scan.specs.Snapshots.{SnapshotView, fault_count}
+use Rattle.snapshot_scan.specs.Snapshots.{SnapshotView}
 use Rattle.partial_loads.specs.declared.folds.Folded.{Folded}
 use Rattle.old_rows.specs.Reading.{AreFilled, HaveKeys, IsReadingDamage, Olds, ReadBlocks, ReadsCause, SameButCounts}
 use Rattle.old_rows.specs.Wanted.{InOneBlock, IsRun, block_of, place_wanted, runs}

@@ -1,16 +1,11 @@
-use Rattle.std.proofs.Common.{◌≡◌, ap, sym, subst, ◌∙◌, ◌+◌, ◌/◌, ◌<◌, ℕ, All, IsTrue, length, true, arith}
+use Rattle.std.proofs.Common.{◌≡◌, ap, sym, subst, ◌∙◌, All, IsTrue, arith}
 use Rattle.std.specs.Prelude.{Err}
 use Rattle.std.proofs.lemmas.Result.{err_from_is_err_and}
 use Rattle.pk_values.specs.Schemas.{Layout, fits_row}
-use Rattle.column_page.specs.Footers.{is_footer}
-use Rattle.column_page.specs.declared.footers.Footer.{Footer}
-use Rattle.snapshot_scan.specs.Parts.{PartView}
-use Rattle.snapshot_scan.specs.Snapshots.{SnapshotView}
 use Rattle.segment_read.proofs.Scanning.{if_ok_so}
 use Rattle.snapshot_scan.proofs.SnapFacts.{if_err_so}
-use Rattle.column_page.specs.FooterReading.{IsSegmentFooter}
 use Rattle.old_rows.proofs.OneFacts.{block-fills, block-misses, cause-after, cause-err, now-there, one-block, one-cause, one-same}
-use Rattle.old_rows.proofs.ReadingFacts.{block-there, broken-block, first_place, no-file, on-damage, part-there, past-file, some-part, to-part}
+use Rattle.old_rows.proofs.ReadingFacts.{block-there, broken-block, first_place, no-file, on-damage, part-there, past-file, some-part}
 use Rattle.old_rows.proofs.filling.take_block.Goals as goal
 
 pub returns-in_default-clause-damaged : goal.returns-in_default-clause-damaged

@@ -1,7 +1,7 @@
 use Rattle.std.proofs.Common.{map, subst}
 use Rattle.old_rows.specs.Reading.{AreFilled, ReadBlocks}
 use Rattle.old_rows.specs.Wanted.{place_wanted, runs}
-use Rattle.old_rows.proofs.AskedFacts.{filled-none, have-keys, olds-are, reads-asked}
+use Rattle.old_rows.proofs.AskedFacts.{olds-are, reads-asked}
 use Rattle.old_rows.proofs.old_rows.read_olds.Goals as goal
 
 pub returns-clause-olds : goal.returns-clause-olds
