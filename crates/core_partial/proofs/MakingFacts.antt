@@ -109,8 +109,8 @@ code-at : (s : Layout) (i : ℕ) (fs : List Folded) (f : Folded) (rest : List Fo
 code-at s zero [] f rest h e = cc
 code-at s zero (g ∷ fs) f rest h e = subst (HasCode s) (head_same g f fs rest e) h.0
   where
-    head_same : (a b : Folded) (as bs : List Folded) → a ∷ as ≡ b ∷ bs → a ≡ b
-    head_same a b as bs e = cc
+    head_same : (a b : Folded) (xs ys : List Folded) → a ∷ xs ≡ b ∷ ys → a ≡ b
+    head_same a b xs ys e = cc
 code-at s (suc i) [] f rest h e = cc
 code-at s (suc i) (g ∷ fs) f rest h e = code-at s i fs f rest h.1 e
 

@@ -13,6 +13,8 @@ use Rattle.pk_values.specs.declared.cells.Value.{Value}
 use Rattle.key_code.specs.KeyCode.{key_code}
 use Rattle.index_level0.specs.declared.place.Place.{Place}
 use Rattle.pk_model.specs.Tables.{Rows}
+use Rattle.pk_model.specs.declared.calls.Load.{Load}
+use Rattle.pk_model.specs.declared.calls.Op.{Op}
 use Rattle.rowsets.specs.Indexing.{CodeMove, place_stored}
 use Rattle.rowsets.specs.Live.{Files, FilesOnce, StandsFor, live}
 use Rattle.rowsets.specs.Scans.{AreRowsOf, Piece, listed}
@@ -30,7 +32,7 @@ use Rattle.old_rows.proofs.StillFacts.{none-read as nothing-read, seen-same}
 use Rattle.core_partial.specs.Found.{AreTold, FoundView, IsFoundOf, IsLocated, codes_of, part_seen}
 use Rattle.core_partial.specs.Making.{AreMadeKeys, was_of}
 use Rattle.core_partial.specs.Prepared.{IsMadeOver, folded_of, located_move}
-use Rattle.core_partial.specs.Preparing.{AreFoundKeys, IsMadeOfRead, ReadsFound}
+use Rattle.core_partial.specs.Preparing.{AreFoundKeys, IsMadeOfRead, ReadsFound, found_in}
 use Rattle.core_partial.specs.declared.keys.PreparedKey.{PreparedKey}
 use Rattle.core_partial.specs.declared.making.MadeKeys.{MadeKeys}
 use Rattle.core_partial.proofs.MakingFacts.{located-are, made-fit, made-moves, made-rise}
@@ -158,11 +160,11 @@ piece-still s a b piece e h =
     let there : IsPieceOf s (still b) piece = subst (λ (p : PartView). IsPieceOf s p piece) e (record { file = h.file; told = h.told; is = h.is; dead = h.dead }) in
     record { file = there.file; told = there.told; is = there.is; dead = there.dead }
 
-first_still : (a b : PartView) (as bs : List PartView) → a ∷ as ≡ b ∷ bs → a ≡ b
-first_still a b as bs e = cc
+first_still : (a b : PartView) (xs ys : List PartView) → a ∷ xs ≡ b ∷ ys → a ≡ b
+first_still a b xs ys e = cc
 
-rest_still : (a b : PartView) (as bs : List PartView) → a ∷ as ≡ b ∷ bs → as ≡ bs
-rest_still a b as bs e = cc
+rest_still : (a b : PartView) (xs ys : List PartView) → a ∷ xs ≡ b ∷ ys → xs ≡ ys
+rest_still a b xs ys e = cc
 
 pieces-still : (s : Layout) (ps qs : List PartView) (pieces : List Piece) → map still ps ≡ map still qs → ArePieces s ps pieces → ArePieces s qs pieces
 pieces-still s [] [] pieces e h = h
@@ -222,3 +224,11 @@ none-asked f = record { blocks = []; once = tt; asked_for = All-nil _; read = no
 -- a fault of the maker or of a reader, in the sum of both
 pub one-of-both : (cap old new other : ℕ) → new ≡ old + min 1 (cap - old) → min (new + other) cap ≡ min (old + other) cap + min 1 (cap - min (old + other) cap)
 one-of-both cap old new other counts = omega (arith, counts)
+
+-- ---- the view of what was found
+
+pub found-is : (f : FoundView) (load : Load) (snapshot : SnapshotView) (located : List CodeMove) (given : List ℕ) (ops : List Op)
+    → Path FoundView (record { load = load; snapshot = snapshot; located = located }) f → f.load ≡ record { given = given; ops = ops } → found_in given ops snapshot located ≡ f
+found-is f load snapshot located given ops view is =
+    let same : load ≡ record { given = given; ops = ops } = ap (λ (x : FoundView). x.load) view ∙ is in
+    (λ i. record { load = sym same i; snapshot = snapshot; located = located }) ∙ view
