@@ -16,3 +16,4 @@ pub mod AgainFacts
 pub mod LocateFacts
 pub mod OldFacts
 pub mod MakingFacts
+pub mod PrepareFacts

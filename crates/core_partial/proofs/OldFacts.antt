@@ -1,6 +1,6 @@
 -- The old rows that are read of what was found are those of the map for which it stands.
-use Rattle.std.proofs.Common.{◌≡◌, refl, ap, sym, subst, ◌∙◌, ℕ, zero, suc, ◌+◌, ◌<◌, List, [], ◌∷◌, map, length, Option, Some, None, Bool as Truth, true, false, ◌||◌, ◌&&◌, cond, slice_get, IfSome, T, arith}
-use Rattle.std.specs.Prelude.{All, IsTrue, ◌⊎◌, inl, inr}
+use Rattle.std.proofs.Common.{◌≡◌, inl, inr, refl, ap, sym, subst, ◌∙◌, ℕ, zero, suc, ◌+◌, ◌<◌, List, [], ◌∷◌, map, length, Option, Some, None, Bool as Truth, true, false, ◌||◌, ◌&&◌, cond, slice_get, IfSome, T, arith}
+use Rattle.std.specs.Prelude.{All, IsTrue, ◌⊎◌}
 use Rattle.std.specs.List.{AllByRecursion}
 use Rattle.std.specs.FinMap.{get}
 use Rattle.std.specs.Cmp.{eq_by_cmp_equiv}
@@ -192,6 +192,20 @@ module _ (f : FoundView) (clean : schema_fault f.snapshot.schema.columns f.snaps
         asks = ap overlays (sym (change-at fs (λ k. change_at f.load.given None f.load.ops k) i g (folded_have_changes s f.load fs folds) there)) ∙ both.0;
         at = place-is i g e there at ∙ both.1;
       }
+
+  -- what is read at the keys' places fits, and is the keys'
+  pub olds-read : (os : Olds) → AreOldsRead f.snapshot fs f.located os → AreOlds s fs os
+  olds-read os are = olds-fit s fs os are.long (λ i g row there got.
+      let entry = entry-at fs f.located i g (as-many f fs located folds) there in
+      let old = are.good i g entry.0 row there entry.1 got in
+      (old.2.fits, old.2.key_is))
+
+  -- where a key has no place, nothing is read
+  pub none-read : (os : Olds) → AreOldsRead f.snapshot fs f.located os → (i : ℕ) (g : Folded) (e : CodeMove) → slice_get fs i ≡ Some g → slice_get f.located i ≡ Some e → e.1 ≡ None
+      → (row : Row) → slice_get os i ≡ Some (Some row) → ⊥
+  none-read os are i g e there at none row got =
+      let old = are.good i g e row there at got in
+      none_some old.0 (sym none ∙ (asked-place g e old.0 old.1).1)
 
   pub reads-found : (g : FoundView) → ReadsAsked fs f.located f.snapshot.parts g.snapshot.parts → ReadsFound f g
   reads-found g reads = record {

@@ -1,21 +1,17 @@
 -- What reading one block leaves of a snapshot, and what is counted.
-use Rattle.std.proofs.Common.{◌≡◌, ◌≢◌, refl, ap, sym, subst, ◌∙◌, ℕ, zero, suc, ◌+◌, ◌-◌, ◌^◌, ◌<◌, ◌≤◌, min, List, [], ◌∷◌, map, length, Option, Some, None, Bool as Truth, true, false, ◌==◌, cond, is_some, slice_get, slice_set, ◌⊎◌, inl, inr, arith}
-use Rattle.std.specs.Prelude.{Result, Ok, Err, IsErrOf, MatchResult}
-use Rattle.std.specs.List.{AllByRecursion}
+use Rattle.std.proofs.Common.{◌≡◌, refl, ap, sym, subst, ◌∙◌, ℕ, zero, suc, ◌+◌, ◌-◌, ◌^◌, ◌≤◌, min, List, [], ◌∷◌, map, length, Some, true, cond, is_some, slice_get, slice_set, ◌⊎◌, inl, inr, arith}
+use Rattle.std.specs.Prelude.{Result, Ok, Err, IsErrOf}
 use Rattle.std.proofs.lemmas.Bool.{eq-eqb}
-use Rattle.dev_traits.specs.Causes.{Counts}
 use Rattle.dev_traits.specs.Reader.{ReaderView, SameFile}
 use Rattle.dev_traits.specs.declared.faults.ReadFault.{ReadFault}
 use Rattle.dev_traits.specs.declared.faults.ReadFault.TheVariants as read
-use Rattle.segment_read.specs.Reads.{HasFailed, HasRead, Reading}
+use Rattle.segment_read.specs.Reads.{Reading}
 use Rattle.pk_values.specs.Schemas.{Layout}
-use Rattle.pk_values.specs.declared.cells.Value.{Value}
-use Rattle.rowsets.specs.Live.{Files, FilesOnce, Live, live}
-use Rattle.rowsets.specs.Scans.{Piece}
-use Rattle.snapshot_scan.specs.Parts.{IsPieceOf, PartView, read_by}
-use Rattle.snapshot_scan.specs.Snapshots.{ReadsPart, SnapshotView, fault_count}
-use Rattle.old_rows.specs.PartsByFile.{FindsParts, IsPartOfFile, found_part}
-use Rattle.old_rows.specs.Reading.{AreTold, OneMore, ReadBlocks, ReadsCause, SameButCounts, TellsRows, live_at, part_seen, still}
+use Rattle.rowsets.specs.Live.{Files, FilesOnce, live}
+use Rattle.snapshot_scan.specs.Parts.{PartView, read_by}
+use Rattle.snapshot_scan.specs.Snapshots.{SnapshotView, fault_count}
+use Rattle.old_rows.specs.PartsByFile.{FindsParts, found_part}
+use Rattle.old_rows.specs.Reading.{AreTold, ReadBlocks, ReadsCause, SameButCounts, TellsRows, live_at, part_seen, still}
 use Rattle.old_rows.specs.Wanted.{Block, blocks_in}
 
 -- ---- the same but for counts
@@ -148,10 +144,10 @@ same-read v w i part reader version schema there now same = record {
 one_more : (cap r s f g : ℕ) → s ≡ r + min 1 (cap - r) → g + r ≡ f + s → r ≤ f → (more : ℕ) → min (more + g) cap ≡ min (more + f) cap + min 1 (cap - min (more + f) cap)
 one_more cap r s f g counts sums least more = omega (arith, counts, sums, least)
 
-ok_err : {T : Type 0} {x : T} → Path (Result T ReadFault) (Ok x) (Err read.StoreFault) → ⊥
+pub ok_err : {T : Type 0} {x : T} → Path (Result T ReadFault) (Ok x) (Err read.StoreFault) → ⊥
 ok_err e = cc
 
-err_same : {T : Type 0} (a b : ReadFault) → Path (Result T ReadFault) (Err a) (Err b) → a ≡ b
+pub err_same : {T : Type 0} (a b : ReadFault) → Path (Result T ReadFault) (Err a) (Err b) → a ≡ b
 err_same a b e = cc
 
 pub counted-once : {T : Type 0} (old : List PartView) (i : ℕ) (part : PartView) (reader : ReaderView) (result : Result T ReadFault) → slice_get old i ≡ Some part
