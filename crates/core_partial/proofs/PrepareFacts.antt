@@ -31,6 +31,7 @@ use Rattle.old_rows.specs.Reading.{AreOldsRead, Olds, SameButCounts, still}
 use Rattle.old_rows.proofs.StillFacts.{none-read as nothing-read, seen-same}
 use Rattle.core_partial.specs.Found.{AreTold, FoundView, IsFoundOf, IsLocated, codes_of, part_seen}
 use Rattle.core_partial.specs.Making.{AreMadeKeys, was_of}
+use Rattle.tablet_state.specs.Readies.{NewSegment}
 use Rattle.core_publish.specs.Prepared.{AreSealedOf, files_of}
 use Rattle.core_partial.specs.Prepared.{IsMadeOver, IsPreparedPartial, PreparedPartialView, folded_of, located_move}
 use Rattle.core_partial.specs.Preparing.{AreFoundKeys, IsMadeOfRead, ReadsFound, found_in}
@@ -250,3 +251,6 @@ is-prepared f made p keys schema load ks rows sealed =
 pub over-same : (s t : Layout) (l k : Load) (ks : List PreparedKey) (xs ys : List (List Value)) (m : Rows) → s ≡ t → l ≡ k → xs ≡ ys → IsMadeOver t k ks ys m → IsMadeOver s l ks xs m
 over-same s t l k ks xs ys m schema load rows h =
     subst (λ x. IsMadeOver x l ks xs m) (sym schema) (subst (λ x. IsMadeOver t x ks xs m) (sym load) (subst (λ x. IsMadeOver t k ks x m) (sym rows) h))
+
+pub sealed-same : (s t : Layout) (xs ys : List (List Value)) (files : List NewSegment) → s ≡ t → xs ≡ ys → AreSealedOf s (files_of xs) files → AreSealedOf t (files_of ys) files
+sealed-same s t xs ys files schema rows h = subst (λ x. AreSealedOf x (files_of ys) files) schema (subst (λ rs. AreSealedOf s (files_of rs) files) rows h)

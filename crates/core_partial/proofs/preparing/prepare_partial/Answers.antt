@@ -1,9 +1,7 @@
 use Rattle.std.proofs.Common.{◌≡◌, ap, sym, subst, ◌∙◌, List, map, refl}
 use Rattle.pk_model.specs.declared.calls.Load.{Load}
-use Rattle.pk_values.specs.Schemas.{Layout}
-use Rattle.core_publish.specs.Prepared.{AreSealedOf, files_of}
 use Rattle.core_partial.specs.Found.{FoundView}
-use Rattle.core_partial.proofs.PrepareFacts.{found-stays, is-prepared, over-same}
+use Rattle.core_partial.proofs.PrepareFacts.{found-stays, is-prepared, over-same, sealed-same}
 use Rattle.core_partial.proofs.preparing.prepare_partial.Goals as goal
 
 pub returns-in_err-keys-clause-stays : goal.returns-in_err-keys-clause-stays
@@ -24,7 +22,7 @@ invariant_of-result g c =
     let rows = (ap (λ v. v.items) c.of-2.ensures) in
     (c.into_vec-given.ensures ∙ ap (λ (l : Load). l.given) (sym c.of-kept.ensures),
     λ unspent. is-prepared c.args.found.now c.in_ok-keys.field-0 _ c.in_ok-keys.ensures.keys schema (c.of-kept.ensures ∙ sym c.requires.located) refl rows
-    ?)
+    (sealed-same _ _ _ _ _ (c.schema-schema.ensures ∙ ap (λ (f : FoundView). f.snapshot.schema) c.found.view_is ∙ c.found_keys.ensures.same.schema) c.deref-2.ensures.value c.in_ok-files.ensures.sealed))
 
 pub returns-clause-over : goal.returns-clause-over
 returns-clause-over g c =
