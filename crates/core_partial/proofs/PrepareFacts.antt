@@ -31,7 +31,9 @@ use Rattle.old_rows.specs.Reading.{AreOldsRead, Olds, SameButCounts, still}
 use Rattle.old_rows.proofs.StillFacts.{none-read as nothing-read, seen-same}
 use Rattle.core_partial.specs.Found.{AreTold, FoundView, IsFoundOf, IsLocated, codes_of, part_seen}
 use Rattle.core_partial.specs.Making.{AreMadeKeys, was_of}
-use Rattle.core_partial.specs.Prepared.{IsMadeOver, folded_of, located_move}
+use Rattle.tablet_state.specs.Readies.{NewSegment}
+use Rattle.core_publish.specs.Prepared.{AreSealedOf, files_of}
+use Rattle.core_partial.specs.Prepared.{IsMadeOver, IsPreparedPartial, PreparedPartialView, folded_of, located_move}
 use Rattle.core_partial.specs.Preparing.{AreFoundKeys, IsMadeOfRead, ReadsFound, found_in}
 use Rattle.core_partial.specs.declared.keys.PreparedKey.{PreparedKey}
 use Rattle.core_partial.specs.declared.making.MadeKeys.{MadeKeys}
@@ -227,8 +229,28 @@ one-of-both cap old new other counts = omega (arith, counts)
 
 -- ---- the view of what was found
 
-pub found-is : (f : FoundView) (load : Load) (snapshot : SnapshotView) (located : List CodeMove) (given : List ℕ) (ops : List Op)
-    → Path FoundView (record { load = load; snapshot = snapshot; located = located }) f → f.load ≡ record { given = given; ops = ops } → found_in given ops snapshot located ≡ f
-found-is f load snapshot located given ops view is =
-    let same : load ≡ record { given = given; ops = ops } = ap (λ (x : FoundView). x.load) view ∙ is in
-    (λ i. record { load = sym same i; snapshot = snapshot; located = located }) ∙ view
+pub found-is : (f : FoundView) (load : Load) (snapshot : SnapshotView) (located entries : List CodeMove) (given : List ℕ) (ops : List Op) → located ≡ entries
+    → Path FoundView (record { load = load; snapshot = snapshot; located = entries }) f → f.load ≡ record { given = given; ops = ops } → found_in given ops snapshot located ≡ f
+found-is f load snapshot located entries given ops same view is =
+    let whole : load ≡ record { given = given; ops = ops } = ap (λ (x : FoundView). x.load) view ∙ is in
+    (λ i. record { load = sym whole i; snapshot = snapshot; located = same i }) ∙ view
+
+-- ---- what is prepared
+
+pub is-prepared : (f : FoundView) (made : MadeKeys) (p : PreparedPartialView) → AreFoundKeys f made → p.schema ≡ f.snapshot.schema → p.load ≡ f.load → p.keys ≡ made.keys.items
+    → p.rows ≡ made.results.rows.items → AreSealedOf f.snapshot.schema (files_of made.results.rows.items) p.files → IsPreparedPartial p
+is-prepared f made p keys schema load ks rows sealed =
+    subst IsPreparedPartial path (record { lawful = keys.lawful; folds = keys.folds; files = record { sealed = sealed; moves_are = keys.moves }; made = keys.was; first = keys.first; over = keys.over })
+  where
+    base : PreparedPartialView
+    base = record { schema = f.snapshot.schema; load = f.load; version = p.version; keys = made.keys.items; rows = made.results.rows.items; files = p.files; again = p.again; spent = p.spent }
+
+    path : base ≡ p
+    path = λ i. record { schema = sym schema i; load = sym load i; version = p.version; keys = sym ks i; rows = sym rows i; files = p.files; again = p.again; spent = p.spent }
+
+pub over-same : (s t : Layout) (l k : Load) (ks : List PreparedKey) (xs ys : List (List Value)) (m : Rows) → s ≡ t → l ≡ k → xs ≡ ys → IsMadeOver t k ks ys m → IsMadeOver s l ks xs m
+over-same s t l k ks xs ys m schema load rows h =
+    subst (λ x. IsMadeOver x l ks xs m) (sym schema) (subst (λ x. IsMadeOver t x ks xs m) (sym load) (subst (λ x. IsMadeOver t k ks x m) (sym rows) h))
+
+pub sealed-same : (s t : Layout) (xs ys : List (List Value)) (files : List NewSegment) → s ≡ t → xs ≡ ys → AreSealedOf s (files_of xs) files → AreSealedOf t (files_of ys) files
+sealed-same s t xs ys files schema rows h = subst (λ x. AreSealedOf x (files_of ys) files) schema (subst (λ rs. AreSealedOf s (files_of rs) files) rows h)
