@@ -68,6 +68,7 @@ impl Desk {
         let (call, words) = line.split_once(' ').unwrap_or((line, ""));
         match call {
             "failing" => self.files.failing(alloc, words),
+            "turn" => self.files.turn(alloc, words),
             "write" => self.files.write(alloc, words),
             "made" => self.files.made(alloc),
             "digest" => self.files.digest(alloc),

@@ -13,3 +13,5 @@ pub mod ReadingFacts
 pub mod SequenceFacts
 pub mod TailFacts
 pub mod RiseFacts
+pub mod SeekFacts
+pub mod WholeFacts

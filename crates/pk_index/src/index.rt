@@ -1,9 +1,10 @@
-ghost use Rattle.std.specs.Prelude.{◌≡◌, ◌+◌, ◌-◌, ◌<◌, ◌≤◌, ◌^◌, ◌↔◌, ◌++◌, ◌∷◌, ℕ, List, [], Option, Some, T, is_some, length, map, take, drop, reverse, sum, max, min, nat_lt, if◌then◌else◌, IfOk, IfErr, IfNone, IsTrue, OnErr, OnOk};
+ghost use Rattle.std.specs.Prelude.{◌≡◌, ◌+◌, ◌-◌, ◌<◌, ◌≤◌, ◌^◌, ◌↔◌, ◌++◌, ◌∷◌, ℕ, List, [], Option, Some, T, is_some, length, map, take, drop, reverse, sum, max, min, nat_lt, if◌then◌else◌, IfOk, IfErr, IfNone, IsFalse, IsTrue, OnErr, OnOk};
 ghost use Rattle.std.specs.Option.{option_flatten, option_to_list};
 ghost use Rattle.std.specs.FinMap.{empty, entries, is_sorted, len};
 ghost use Rattle.std.specs.Cmp.Lexicographic.{slice_cmp};
 ghost use Rattle.std.specs.Ordering.{nat_cmp};
 ghost use Rattle.index_file.specs.Buckets.{footer_of, index_file};
+ghost use Rattle.index_file.specs.Entries.{IsFileOf};
 ghost use Rattle.index_level0.specs.Levels.{Entry, Level};
 ghost use Rattle.index_levels.specs.Levels.{flushed, levels, merged, newer_than, place_at, put_all, replaced};
 ghost use Rattle.pk_index.specs.Flushing.{merged_for, written};
@@ -152,6 +153,7 @@ impl<F: FileLevel> PkIndex<F> {
         ensures same { (files : List Level) → HaveLevels F.has_level self.old.files files → HaveLevels F.has_level self.new.files files }
         ensures number { length self.new.files ≡ length self.old.files }
         ensures kept { drop (length self.old.files - keep) self.new.files ≡ drop (length self.old.files - keep) self.old.files }
+        ensures unread { length self.old.files < most → self.new.files ≡ self.old.files }
         ensures named { map F.named self.new.files ≡ map F.named self.old.files }
         ensures cause { HaveCause (map F.faults self.old.files) (map F.faults self.new.files) result }
         ensures intact { IfErr result (λ e. TellsDamage e → (files : List Level) → HaveLevels F.has_level self.old.files files → ⊥) }
@@ -169,7 +171,7 @@ impl<F: FileLevel> PkIndex<F> {
 
     /// Writes one file. Where fewer than `most` files stand, it holds level 0, and the answer keeps all of them. Else it holds the
     /// newest entries of level 0 and all files but the oldest `keep`; where it keeps none, tombstones are left out. The index stays
-    /// as it is.
+    /// as it is, and of its files those alone are read that the answer doesn't keep.
     ///
     /// # Errors
     /// `StoreFault` where the maker or a file's reader counted a fault; `Damaged` as the files tell it; `Memory`.
@@ -186,19 +188,28 @@ impl<F: FileLevel> PkIndex<F> {
         ensures sealed { IfOk result (λ told. (files : List Level) → HaveLevels F.has_level self.old.files files → (bytes : List ℕ) → M.sealed_bytes told.made.sealed ≡ Some bytes
             → bytes ≡ index_file (written keep most (index_of self.old.level0 files))) }
 
+        // Attached with the base 0, the file has exactly what is written.
+        ensures file { IfOk result (λ told. (files : List Level) → HaveLevels F.has_level self.old.files files → (bytes : List ℕ) → M.sealed_bytes told.made.sealed ≡ Some bytes
+            → IsFileOf 0 told.made.footer bytes (written keep most (index_of self.old.level0 files))) }
+
         // Of any files, what all those that it merges are read as, so that no damaged one is passed over.
         ensures listed { IfOk result (λ told. (ls : List Level) × HaveLevels F.reads_as (take (length self.old.files - told.keep) self.old.files) ls
             × (told.made.footer ≡ footer_of (merged_for (length self.old.files) keep most (self.old.level0.level ∷ ls)))
-            × ((bytes : List ℕ) → M.sealed_bytes told.made.sealed ≡ Some bytes → bytes ≡ index_file (merged_for (length self.old.files) keep most (self.old.level0.level ∷ ls)))) }
+            × ((bytes : List ℕ) → M.sealed_bytes told.made.sealed ≡ Some bytes → (bytes ≡ index_file (merged_for (length self.old.files) keep most (self.old.level0.level ∷ ls)))
+            × IsFileOf 0 told.made.footer bytes (merged_for (length self.old.files) keep most (self.old.level0.level ∷ ls)))) }
         ensures told { IfOk result (λ told. is_some (M.sealed_bytes told.made.sealed) ≡ is_some (M.view maker.old).made) }
         ensures keep { IfOk result (λ told. told.keep ≡ (if nat_lt (length self.old.files) most then length self.old.files else keep)) }
         ensures level0 { self.new.level0 ≡ self.old.level0 }
         ensures same { (files : List Level) → HaveLevels F.has_level self.old.files files → HaveLevels F.has_level self.new.files files }
         ensures number { length self.new.files ≡ length self.old.files }
         ensures kept { drop (length self.old.files - keep) self.new.files ≡ drop (length self.old.files - keep) self.old.files }
+        ensures unread { length self.old.files < most → self.new.files ≡ self.old.files }
         ensures named { map F.named self.new.files ≡ map F.named self.old.files }
         ensures cause { HaveFlushCause (map F.faults self.old.files) (map F.faults self.new.files) (M.view maker.old).faults (M.view maker.new).faults result }
         ensures intact { IfErr result (λ e. TellsIndexDamage e → (files : List Level) → HaveLevels F.has_level self.old.files files → ⊥) }
+
+        // The maker has no file under way.
+        ensures closed { OnOk result (IsFalse (M.view maker.new).is_started) }
         ensures tells { is_some (M.view maker.new).made ≡ is_some (M.view maker.old).made }
         ensures aside { self.new.aside ≡ self.old.aside }
     {
