@@ -140,9 +140,9 @@ pub fn probe<R: SealedReader>(
 
     // Of the file of a level, the level's entry.
     ensures level { IfOk result (λ entry. (level : Level) → HasLevel file.old.base file.old.footer (R.view file.old.reader) level → entry ≡ get level key.now) }
-    ensures damaged { IfErr result (λ e. OnDamage e (IsDamage file.old.number (part.Bucket (bucket_of (length file.old.footer.buckets) key.now)) (λ shown.
-        OnFile (R.view file.old.reader) (λ bytes. OfBucket file.old.footer (bucket_of (length file.old.footer.buckets) key.now) (λ mark.
-        BucketShown (length file.old.footer.buckets) (bucket_of (length file.old.footer.buckets) key.now) file.old.base mark.length (bucket_in bytes mark) shown))))) }
+
+    // The damage is that of the key's bucket.
+    ensures damaged { IfErr result (λ e. OnDamage e (IsDamageAt file.old.base file.old.footer file.old.number (R.view file.old.reader) key.now)) }
     ensures intact { IfErr result (λ e. TellsDamage e → (level : Level) → HasLevel file.old.base file.old.footer (R.view file.old.reader) level → ⊥) }
     ensures reading { Reading 1 (R.view file.old.reader) (R.view file.new.reader) result }
     ensures number { file.new.number ≡ file.old.number }

@@ -1,14 +1,15 @@
-ghost use Rattle.std.specs.Prelude.{◌≡◌, ◌+◌, ◌-◌, ◌<◌, ◌≤◌, ◌^◌, ◌↔◌, ◌++◌, ◌∷◌, ℕ, List, [], Option, Some, T, is_some, length, map, take, drop, reverse, sum, max, min, nat_lt, if◌then◌else◌, IfOk, IfErr, IfNone, IsFalse, IsTrue, OnErr, OnOk};
+ghost use Rattle.std.specs.Prelude.{◌≡◌, ◌+◌, ◌-◌, ◌<◌, ◌≤◌, ◌^◌, ◌↔◌, ◌++◌, ◌∷◌, ℕ, List, [], Option, None, Some, T, is_some, length, map, take, drop, reverse, sum, max, min, nat_lt, if◌then◌else◌, IfOk, IfErr, IfNone, IsFalse, IsTrue, OnErr, OnOk};
 ghost use Rattle.std.specs.Option.{option_flatten, option_to_list};
-ghost use Rattle.std.specs.FinMap.{empty, entries, is_sorted, len};
+ghost use Rattle.std.specs.FinMap.{empty, entries, get, is_sorted, len};
 ghost use Rattle.std.specs.Cmp.Lexicographic.{slice_cmp};
 ghost use Rattle.std.specs.Ordering.{nat_cmp};
 ghost use Rattle.index_file.specs.Buckets.{footer_of, index_file};
 ghost use Rattle.index_file.specs.Entries.{IsFileOf};
 ghost use Rattle.index_level0.specs.Levels.{Entry, Level};
 ghost use Rattle.index_levels.specs.Levels.{flushed, levels, merged, newer_than, place_at, put_all, replaced};
-ghost use Rattle.pk_index.specs.Flushing.{merged_for, written};
-ghost use Rattle.index_file.specs.Reads.{TellsDamage};
+ghost use Rattle.pk_index.specs.Files.{FirstDamaged, IsSame, OneDamaged, OnIndexDamage, Stay};
+ghost use Rattle.pk_index.specs.Flushing.{IsWritten, SamePlaces, merged_for, written};
+ghost use Rattle.index_file.specs.Reads.{OnDamage, TellsDamage};
 ghost use Rattle.pk_index.specs.Shown.{AtMostOneMore, HaveCause, HaveFlushCause, HaveLevels, NewestHas, TellsIndexDamage, index_of};
 
 use crate::entries::{Pair, places, put_changes};
@@ -124,10 +125,14 @@ impl<F: FileLevel> PkIndex<F> {
         ensures told { IfOk result (λ place. (entry : Option Entry) × (place ≡ option_flatten entry)
             × NewestHas F.has_entry self.old.level0.level self.old.files key.now entry) }
         ensures level0 { self.new.level0 ≡ self.old.level0 }
-        ensures same { (files : List Level) → HaveLevels F.has_level self.old.files files → HaveLevels F.has_level self.new.files files }
+        ensures same { Stay (IsSame F.has_level F.has_entry F.reads_as F.damaged_at F.damaged) self.old.files self.new.files }
         ensures number { length self.new.files ≡ length self.old.files }
         ensures named { map F.named self.new.files ≡ map F.named self.old.files }
         ensures cause { HaveCause (map F.faults self.old.files) (map F.faults self.new.files) result }
+
+        // The damage is that of the first file that can tell, and of what it reads for the key.
+        ensures damaged { IfErr result (λ e. OnDamage e (λ shown. (get self.old.level0.level key.now ≡ None)
+            × FirstDamaged (λ f. F.has_entry f key.now None) (λ f. F.damaged_at f key.now shown) self.old.files)) }
         ensures intact { IfErr result (λ e. TellsDamage e → (files : List Level) → HaveLevels F.has_level self.old.files files → ⊥) }
         ensures aside { self.new.aside ≡ self.old.aside }
     {
@@ -150,12 +155,13 @@ impl<F: FileLevel> PkIndex<F> {
             × (told.0.items ≡ entries (merged_for (length self.old.files) keep most (self.old.level0.level ∷ ls)))) }
         ensures keep { IfOk result (λ told. told.1 ≡ (if nat_lt (length self.old.files) most then length self.old.files else keep)) }
         ensures level0 { self.new.level0 ≡ self.old.level0 }
-        ensures same { (files : List Level) → HaveLevels F.has_level self.old.files files → HaveLevels F.has_level self.new.files files }
+        ensures same { Stay (IsSame F.has_level F.has_entry F.reads_as F.damaged_at F.damaged) self.old.files self.new.files }
         ensures number { length self.new.files ≡ length self.old.files }
         ensures kept { drop (length self.old.files - keep) self.new.files ≡ drop (length self.old.files - keep) self.old.files }
         ensures unread { length self.old.files < most → self.new.files ≡ self.old.files }
         ensures named { map F.named self.new.files ≡ map F.named self.old.files }
         ensures cause { HaveCause (map F.faults self.old.files) (map F.faults self.new.files) result }
+        ensures damaged { IfErr result (λ e. OnDamage e (λ shown. OneDamaged (λ f. F.damaged f shown) (take (length self.old.files - (if nat_lt (length self.old.files) most then length self.old.files else keep)) self.old.files))) }
         ensures intact { IfErr result (λ e. TellsDamage e → (files : List Level) → HaveLevels F.has_level self.old.files files → ⊥) }
         ensures aside { self.new.aside ≡ self.old.aside }
     {
@@ -200,12 +206,15 @@ impl<F: FileLevel> PkIndex<F> {
         ensures told { IfOk result (λ told. is_some (M.sealed_bytes told.made.sealed) ≡ is_some (M.view maker.old).made) }
         ensures keep { IfOk result (λ told. told.keep ≡ (if nat_lt (length self.old.files) most then length self.old.files else keep)) }
         ensures level0 { self.new.level0 ≡ self.old.level0 }
-        ensures same { (files : List Level) → HaveLevels F.has_level self.old.files files → HaveLevels F.has_level self.new.files files }
+        ensures same { Stay (IsSame F.has_level F.has_entry F.reads_as F.damaged_at F.damaged) self.old.files self.new.files }
         ensures number { length self.new.files ≡ length self.old.files }
         ensures kept { drop (length self.old.files - keep) self.new.files ≡ drop (length self.old.files - keep) self.old.files }
         ensures unread { length self.old.files < most → self.new.files ≡ self.old.files }
         ensures named { map F.named self.new.files ≡ map F.named self.old.files }
         ensures cause { HaveFlushCause (map F.faults self.old.files) (map F.faults self.new.files) (M.view maker.old).faults (M.view maker.new).faults result }
+
+        // The damage is that of a file that it merges.
+        ensures damaged { IfErr result (λ e. OnIndexDamage e (λ shown. OneDamaged (λ f. F.damaged f shown) (take (length self.old.files - (if nat_lt (length self.old.files) most then length self.old.files else keep)) self.old.files))) }
         ensures intact { IfErr result (λ e. TellsIndexDamage e → (files : List Level) → HaveLevels F.has_level self.old.files files → ⊥) }
 
         // The maker has no file under way.
@@ -232,11 +241,12 @@ impl<F: FileLevel> PkIndex<F> {
         ensures listed { IfOk result (λ all. (ls : List Level) × HaveLevels F.reads_as (take (length self.old.files - mark) self.old.files) ls
             × (all.items ≡ entries (merged (self.old.level0.level ∷ ls)))) }
         ensures level0 { self.new.level0 ≡ self.old.level0 }
-        ensures same { (files : List Level) → HaveLevels F.has_level self.old.files files → HaveLevels F.has_level self.new.files files }
+        ensures same { Stay (IsSame F.has_level F.has_entry F.reads_as F.damaged_at F.damaged) self.old.files self.new.files }
         ensures number { length self.new.files ≡ length self.old.files }
         ensures marked { drop (length self.old.files - mark) self.new.files ≡ drop (length self.old.files - mark) self.old.files }
         ensures named { map F.named self.new.files ≡ map F.named self.old.files }
         ensures cause { HaveCause (map F.faults self.old.files) (map F.faults self.new.files) result }
+        ensures damaged { IfErr result (λ e. OnDamage e (λ shown. OneDamaged (λ f. F.damaged f shown) (take (length self.old.files - mark) self.old.files))) }
         ensures intact { IfErr result (λ e. TellsDamage e → (files : List Level) → HaveLevels F.has_level self.old.files files → ⊥) }
         ensures aside { self.new.aside ≡ self.old.aside }
     {
@@ -251,6 +261,11 @@ impl<F: FileLevel> PkIndex<F> {
         requires few { keep < 8 }
         requires none_aside { self.old.aside ≡ [] }
         ensures index { (files : List Level) (level : Level) → HaveLevels F.has_level self.old.files files → F.has_level file level → HaveLevels F.has_level self.new.files (flushed level keep (index_of self.old.level0 files)).files }
+
+        // Where the file has what a flush of these levels writes, each key keeps its place.
+        ensures map { (files : List Level) (level : Level) (asked most : ℕ) → HaveLevels F.has_level self.old.files files → F.has_level file level
+            → IsWritten asked most keep (index_of self.old.level0 files) level
+            → (after : List Level) × HaveLevels F.has_level self.new.files after × SamePlaces (index_of self.old.level0 files) (index_of self.new.level0 after) }
         ensures level { self.new.level0.level ≡ empty }
         ensures spare { self.new.level0.spare ≡ self.old.level0.spare }
         ensures files { self.new.files ≡ file ∷ drop (length self.old.files - keep) self.old.files }
@@ -287,10 +302,13 @@ impl<F: FileLevel> PkIndex<F> {
         self.aside.pop()
     }
 
-    /// The files, of which the newest is the first. It takes no memory.
+    /// The files, of which the newest is the first. It takes no memory. Level 0 is let go: where it is empty, the files alone have
+    /// each key's place.
     pub fn into_files(self) -> Vec<F>
         requires { self.aside ≡ [] }
-        ensures { result.items ≡ self.files }
+        ensures files { result.items ≡ self.files }
+        ensures map { (files : List Level) → HaveLevels F.has_level self.files files → self.level0.level ≡ empty
+            → HaveLevels F.has_level result.items files × ((key : List ℕ) → place_at files key ≡ place_at (levels (index_of self.level0 files)) key) }
     {
         let PkIndex {
             level0: _,

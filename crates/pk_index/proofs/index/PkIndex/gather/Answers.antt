@@ -1,10 +1,12 @@
-use Rattle.std.proofs.Common.{◌≡◌, ℕ, ap, subst, sym, ◌∙◌, ◌∷◌, ◌-◌, ◌&&◌, ◌==◌, not, nat_lt, false, arith, length, take}
+use Rattle.std.proofs.Common.{◌≡◌, ℕ, ap, subst, sym, ◌∙◌, ◌∷◌, ◌-◌, ◌&&◌, ◌==◌, not, nat_lt, if◌then◌else◌, false, arith, length, take}
 use Rattle.std.specs.FinMap.{entries}
 use Rattle.index_level0.specs.Levels.{LevelWithRoom}
 use Rattle.index_levels.specs.Levels.{merged}
+use Rattle.pk_index.specs.Files.{OneDamaged}
 use Rattle.pk_index.specs.Shown.{HaveLevels, index_of}
 use Rattle.pk_index.proofs.IndexFacts.{same_number}
 use Rattle.pk_index.proofs.MergedFacts.{all_for, all_written, if_fewer, if_some, kept_fewer, kept_more, newest_written, places_for}
+use Rattle.pk_index.proofs.SameFacts.{of_damage}
 use Rattle.pk_index.proofs.index.PkIndex.gather.Goals as goal
 use Rattle.pk_index.proofs.index.PkIndex.gather.Goals.{then-count-most, else-count-most, else-count-most-2-via-then-count-most-2+else-keep-eq0, else-count-most-2-via-else-count-most-2}
 
@@ -72,3 +74,19 @@ returns-clause-listed g c =
       all_for (length c.args.self.now.files) c.args.keep c.args.most (c.args.self.now.level0.level ∷ told.0) c.in_ok-all.all.items some
           (told.2 ∙ ap (λ (l : LevelWithRoom). entries (merged (l.level ∷ told.0))) (λ i. (c.self.view_is i).level0)),
     )
+
+pub returns-in_err-all-clause-damaged : goal.returns-in_err-all-clause-damaged
+returns-in_err-all-clause-damaged g c =
+    let count = c.mark-count.ensures.count in
+    let n = c.mark-count.result - c.if-count-most.kept in
+    let end = if nat_lt (length c.args.self.now.files) c.args.most then length c.args.self.now.files else c.args.keep in
+    let kept : c.if-count-most.kept ≡ end =
+    elim c.if-count-most.branch [
+      | then-count-most w ↦ let k = kept_fewer (length c.args.self.now.files) c.args.most c.args.keep (omega (arith, count)) in omega (arith, count, k)
+      | else-count-most w ↦ let k = kept_more (length c.args.self.now.files) c.args.most c.args.keep (omega (arith, count)) in omega (arith, count, k)
+    ] in
+    of_damage c.in_err-all.fault (λ shown. OneDamaged (λ f. g.F.FileLevel.damaged f shown) (take n c.deref_mut.result.now))
+    (λ shown. OneDamaged (λ f. g.F.FileLevel.damaged f shown) (take (length c.args.self.now.files - end) c.args.self.now.files))
+    (λ shown is. subst (λ (m : ℕ). OneDamaged (λ f. g.F.FileLevel.damaged f shown) (take m c.args.self.now.files)) (omega (arith, count, kept))
+    (subst (λ fs. OneDamaged (λ f. g.F.FileLevel.damaged f shown) (take n fs)) (c.deref_mut.ensures.value ∙ (λ i. (c.self.view_is i).files)) is))
+    c.in_err-all.ensures.damaged
