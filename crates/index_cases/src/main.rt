@@ -39,7 +39,6 @@ impl Desk {
             "bucket" => levels::bucket(alloc, words),
             "body" => levels::body(alloc, words),
             "put" => levels::put(alloc, &mut self.level, words),
-            "fill" => levels::fill(alloc, &mut self.level, words),
             "get" => levels::get(alloc, &self.level, words),
             "len" => format!(in alloc; "{}", self.level.len()),
             "entries" => levels::entries(alloc, &self.level),
