@@ -15,3 +15,4 @@ pub mod TailFacts
 pub mod RiseFacts
 pub mod SeekFacts
 pub mod WholeFacts
+pub mod MadeFacts

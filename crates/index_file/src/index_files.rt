@@ -7,7 +7,8 @@ ghost use Rattle.dev_traits.specs.declared.faults.Part.TheVariants as part;
 ghost use Rattle.index_level0.specs.Levels.{Level};
 ghost use Rattle.index_file.specs.declared.footers.IndexFooter.{IndexFooter};
 ghost use Rattle.index_file.specs.Buckets.{bucket_of, buckets_for};
-ghost use Rattle.index_file.specs.Entries.{BucketShown, HasLevel, sum_fits, sums_fit, with_base};
+ghost use Rattle.index_file.specs.Damages.{IsDamageAt};
+ghost use Rattle.index_file.specs.Entries.{BucketShown, HasLevel, IsFileOf, sum_fits, sums_fit, with_base};
 ghost use Rattle.index_file.specs.Footers.{FooterShown, HasFooter};
 ghost use Rattle.index_file.specs.Listing.{HasEntry};
 ghost use Rattle.index_file.specs.Wholes.{AreWhole};
@@ -109,6 +110,10 @@ pub fn attach_index<R: SealedReader>(
 
     // A file has no other footer.
     ensures only { IfOk result (λ file. OnFile (R.view reader) (λ bytes. (f : IndexFooter) → HasFooter f bytes → file.footer ≡ f)) }
+
+    // A level's file is attached as that of the level, and no damage is told of it.
+    ensures level { IfOk result (λ file. OnFile (R.view reader) (λ bytes. (f : IndexFooter) (level : Level) → IsFileOf base f bytes level → HasLevel base file.footer (R.view file.reader) level)) }
+    ensures intact { IfErr result (λ e. TellsDamage e.1 → OnFile (R.view reader) (λ bytes. (f : IndexFooter) (level : Level) → IsFileOf base f bytes level → ⊥)) }
     ensures attached { IfOk result (λ file. HasRead 2 (R.view reader) (R.view file.reader)) }
     ensures damaged { IfErr result (λ e. OnDamage e.1 (IsDamage number part.Footer (λ shown. OnFile (R.view reader) (λ bytes. FooterShown bytes shown)))) }
     ensures refused { IfErr result (λ e. HasFailed 2 (R.view reader) (R.view e.0) e.1) }
