@@ -8,7 +8,7 @@ ghost use Rattle.index_file.specs.Entries.{IsFileOf};
 ghost use Rattle.index_level0.specs.Levels.{Entry, Level};
 ghost use Rattle.index_levels.specs.Levels.{flushed, levels, merged, newer_than, place_at, put_all, replaced};
 ghost use Rattle.pk_index.specs.Files.{FirstDamaged, IsSame, OneDamaged, OnIndexDamage, Stay};
-ghost use Rattle.pk_index.specs.Flushing.{IsWritten, SamePlaces, merged_for, written};
+ghost use Rattle.pk_index.specs.Flushing.{IsWritten, SameAbove, SamePlaces, TakesOlder, merged_for, written};
 ghost use Rattle.index_file.specs.Reads.{OnDamage, TellsDamage};
 ghost use Rattle.pk_index.specs.Shown.{AtMostOneMore, HaveCause, HaveFlushCause, HaveLevels, NewestHas, TellsIndexDamage, index_of};
 
@@ -266,6 +266,11 @@ impl<F: FileLevel> PkIndex<F> {
         ensures map { (files : List Level) (level : Level) (asked most : ℕ) → HaveLevels F.has_level self.old.files files → F.has_level file level
             → IsWritten asked most keep (index_of self.old.level0 files) level
             → (after : List Level) × HaveLevels F.has_level self.new.files after × SamePlaces (index_of self.old.level0 files) (index_of self.new.level0 after) }
+
+        // And above a mark, where it keeps the marked files, each key keeps its entry, be it a tombstone.
+        ensures above { (files : List Level) (level : Level) (asked most mark : ℕ) → HaveLevels F.has_level self.old.files files → F.has_level file level
+            → IsWritten asked most keep (index_of self.old.level0 files) level → 1 ≤ mark → mark ≤ keep
+            → (after : List Level) × HaveLevels F.has_level self.new.files after × SameAbove mark (index_of self.old.level0 files) (index_of self.new.level0 after) }
         ensures level { self.new.level0.level ≡ empty }
         ensures spare { self.new.level0.spare ≡ self.old.level0.spare }
         ensures files { self.new.files ≡ file ∷ drop (length self.old.files - keep) self.old.files }
@@ -277,12 +282,15 @@ impl<F: FileLevel> PkIndex<F> {
         self.level0.clear();
     }
 
-    /// Puts one file in place of the oldest `mark` ones. It takes no memory.
+    /// Puts one file in place of the oldest `mark` ones: keys with an entry above the mark keep it, and each other key has the file's.
+    /// It takes no memory.
     pub fn replace_older(&mut self, mark: u32, file: F)
         requires some { 1 ≤ mark }
         requires within { mark ≤ length self.old.files }
         requires none_aside { self.old.aside ≡ [] }
         ensures index { (files : List Level) (level : Level) → HaveLevels F.has_level self.old.files files → F.has_level file level → HaveLevels F.has_level self.new.files (replaced level mark (index_of self.old.level0 files)).files }
+        ensures map { (files : List Level) (level : Level) → HaveLevels F.has_level self.old.files files → F.has_level file level
+            → (after : List Level) × HaveLevels F.has_level self.new.files after × TakesOlder level mark (index_of self.old.level0 files) (index_of self.new.level0 after) }
         ensures files { self.new.files ≡ take (length self.old.files - mark) self.old.files ++ file ∷ [] }
         ensures level0 { self.new.level0 ≡ self.old.level0 }
         ensures number { length self.new.files + mark ≡ length self.old.files + 1 }
