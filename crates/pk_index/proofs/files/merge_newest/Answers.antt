@@ -1,4 +1,4 @@
-use Rattle.std.proofs.Common.{◌∙◌, ◌++◌, ◌∷◌, [], ◌<◌, ℕ, ap, arith, length, refl, subst, take}
+use Rattle.std.proofs.Common.{◌∙◌, ◌++◌, ◌∷◌, [], ◌<◌, ℕ, ap, arith, get_or, length, refl, subst, take}
 use Rattle.std.proofs.lemmas.List.{drop-set-lt}
 use Rattle.std.specs.FinMap.{entries, from_sorted}
 use Rattle.index_levels.specs.Levels.{over}
@@ -84,6 +84,9 @@ returns-clause-listed g c =
 pub returns-in-Err-clause-damaged : goal.returns-in-Err-clause-damaged
 returns-in-Err-clause-damaged g c =
     let less : c.loop-i.i < length c.loop-i.files = omega arith in
-    of_damage c.in-Err.fault (g.F.FileLevel.damaged c.index-files-i.result) (λ shown. OneDamaged (λ f. g.F.FileLevel.damaged f shown) (take c.args.count c.args.files.now))
+    of_damage c.in-Err.fault (g.F.FileLevel.damaged (get_or c.loop-i.files c.loop-i.i c.index-files-i.result)) (λ shown. OneDamaged (λ f. g.F.FileLevel.damaged f shown) (take c.args.count c.args.files.now))
     (λ shown is. one_damaged (λ f. g.F.FileLevel.damaged f shown) c.args.files.now c.loop-i.files c.loop-i.i c.args.count c.index-files-i.result less (omega (arith, c.requires, c.loop-i-test.true)) c.loop-i-test.true c.loop-i.invariant.rest is)
     c.in-Err.ensures.damaged
+
+pub returns-in_err-all-clause-same : goal.returns-in_err-all-clause-same
+returns-in_err-all-clause-same g c = stay_themselves g.F.FileLevel.has_level g.F.FileLevel.has_entry g.F.FileLevel.reads_as g.F.FileLevel.damaged_at g.F.FileLevel.damaged c.args.files.now

@@ -1,4 +1,4 @@
-use Rattle.std.proofs.Common.{refl, subst, sym, ◌∙◌, ◌<◌, None, Option, arith, length}
+use Rattle.std.proofs.Common.{refl, subst, sym, ◌∙◌, ◌<◌, None, Option, arith, get_or, length}
 use Rattle.pk_index.proofs.CauseFacts.{fails_once, none_fails, none_have, told_same}
 use Rattle.pk_index.proofs.IndexFacts.{found_there, missed_there, none_left}
 use Rattle.pk_index.proofs.ReadFacts.{counted_all, counted_on, counted_once, uncounted_on}
@@ -59,7 +59,7 @@ loop-i-preserved g c =
           c.loop-i.invariant.rest c.loop-i.invariant.told c.in-Ok.ensures.told (sym c.if-is_some.ensures);
       hurt = λ shown.
           none_damaged (λ f. g.F.FileLevel.has_entry f c.args.key.now None) (λ f. g.F.FileLevel.damaged_at f c.args.key.now shown) c.args.files.now c.loop-i.files c.loop-i.i c.index-files-i.result less
-          c.loop-i.invariant.rest (c.loop-i.invariant.hurt shown) (subst (λ (found : Option Entry). g.F.FileLevel.has_entry c.index-files-i.result c.args.key.now found) (none_of c.in-Ok.found (sym c.if-is_some.ensures)) c.in-Ok.ensures.told);
+          c.loop-i.invariant.rest (c.loop-i.invariant.hurt shown) (subst (λ (found : Option Entry). g.F.FileLevel.has_entry (get_or c.loop-i.files c.loop-i.i c.index-files-i.result) c.args.key.now found) (none_of c.in-Ok.found (sym c.if-is_some.ensures)) c.in-Ok.ensures.told);
       none = λ ls have.
           missed_there g.F.FileLevel.has_level c.loop-i.files c.loop-i.i c.index-files-i.result c.args.key.now c.in-Ok.found less ls
           (still_levels g.F.FileLevel.has_level g.F.FileLevel.has_entry g.F.FileLevel.reads_as g.F.FileLevel.damaged_at g.F.FileLevel.damaged c.args.files.now c.loop-i.files ls c.loop-i.invariant.same have) (c.loop-i.invariant.none ls have) c.in-Ok.ensures.entry (sym c.if-is_some.ensures);
@@ -104,6 +104,6 @@ returns-then-is_some-clause-cause g c = none_fails g.F.FileLevel.faults c.args.f
 pub returns-in-Err-clause-damaged : goal.returns-in-Err-clause-damaged
 returns-in-Err-clause-damaged g c =
     let less : c.loop-i.i < length c.loop-i.files = omega arith in
-    of_damage c.in-Err.fault (g.F.FileLevel.damaged_at c.index-files-i.result c.args.key.now) (λ shown. FirstDamaged (λ f. g.F.FileLevel.has_entry f c.args.key.now None) (λ f. g.F.FileLevel.damaged_at f c.args.key.now shown) c.args.files.now)
+    of_damage c.in-Err.fault (g.F.FileLevel.damaged_at (get_or c.loop-i.files c.loop-i.i c.index-files-i.result) c.args.key.now) (λ shown. FirstDamaged (λ f. g.F.FileLevel.has_entry f c.args.key.now None) (λ f. g.F.FileLevel.damaged_at f c.args.key.now shown) c.args.files.now)
     (λ shown is. first_damaged (λ f. g.F.FileLevel.has_entry f c.args.key.now None) (λ f. g.F.FileLevel.damaged_at f c.args.key.now shown) c.args.files.now c.loop-i.files c.loop-i.i c.index-files-i.result less c.loop-i.invariant.rest (c.loop-i.invariant.hurt shown) is)
     c.in-Err.ensures.damaged
