@@ -1,5 +1,5 @@
 -- The entries that the bytes of a bucket are.
-use Rattle.std.proofs.Common.{◌≡◌, ap, sym, subst, ◌∙◌, ℕ, ◌+◌, arith, List, ◌++◌, length, take, drop, Some, Bool as Truth, true, false, refl, T, slice_get}
+use Rattle.std.proofs.Common.{◌≡◌, ap, sym, subst, ◌∙◌, ℕ, ◌+◌, arith, List, length, take, drop, Some, Bool as Truth, true, false, refl, T, slice_get}
 use Rattle.std.specs.List.{list_all}
 use Rattle.std.specs.FinMap.{is_sorted}
 use Rattle.std.specs.Cmp.Lexicographic.{slice_cmp}

@@ -1,5 +1,5 @@
 -- A file that was made has its footer, and is attached with it.
-use Rattle.std.proofs.Common.{◌≡◌, ◌∙◌, ap, refl, sym, subst, ℕ, ◌+◌, ◌<◌, ◌≤◌, ◌^◌, ◌==◌, ◌&&◌, arith, All, List, [], ◌∷◌, ◌++◌, length, Some, true, Bool as Truth}
+use Rattle.std.proofs.Common.{◌≡◌, ◌∙◌, ap, refl, sym, subst, ℕ, ◌+◌, ◌<◌, ◌≤◌, ◌^◌, ◌==◌, ◌&&◌, arith, All, List, [], ◌∷◌, length, Some, true, Bool as Truth}
 use Rattle.std.specs.List.{flat_map}
 use Rattle.std.specs.FinMap.{len}
 use Rattle.std.proofs.lemmas.Bool.Decides.{nat_tests}
@@ -14,12 +14,11 @@ use Rattle.dev_traits.specs.declared.faults.ReadFault.TheVariants as read
 use Rattle.dev_traits.specs.declared.faults.Shown.{Shown}
 use Rattle.dev_traits.specs.declared.faults.Shown.TheVariants.{Digests, Form, Absent}
 use Rattle.index_level0.specs.Levels.{Level}
-use Rattle.index_file.specs.Buckets.{LevelFits, Pair, bucket_body, bucket_file, buckets_for, buckets_of, footer_body, footer_bytes, footer_of, index_file, marks_from, tail_of}
+use Rattle.index_file.specs.Buckets.{LevelFits, Pair, bucket_body, bucket_file, buckets_for, buckets_of, footer_body, footer_of, index_file, marks_from, tail_of}
 use Rattle.index_file.specs.Entries.{HasLevel, IsFileOf}
-use Rattle.index_file.specs.Footers.{FooterFits, FooterShown, HasFooter, HasTail, IsFooter, MarkFits, stand_until}
+use Rattle.index_file.specs.Footers.{FooterShown, HasFooter, HasTail, MarkFits, stand_until}
 use Rattle.index_file.specs.FormLaws.{MadeHasFooter}
 use Rattle.index_file.specs.Reads.{IsDamage, OnDamage, OnFile, TellsDamage}
-use Rattle.index_file.specs.declared.footers.BucketMark.{BucketMark}
 use Rattle.index_file.specs.declared.footers.IndexFooter.{IndexFooter}
 use Rattle.index_file.proofs.BucketFacts.{length-bucket_file}
 use Rattle.index_file.proofs.FormFacts.{short_footer}

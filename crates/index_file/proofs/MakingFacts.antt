@@ -1,7 +1,7 @@
 -- One bucket more, in what was made and in the marks.
 use Rattle.std.proofs.Common.{◌≡◌, refl, ap, sym, subst, ◌∙◌, ℕ, ◌+◌, ◌<◌, ◌≤◌, arith, List, [], ◌∷◌, ◌++◌, append_assoc, length, map, drop, Some, None, T, true, ◌&&◌, ◌^◌}
 use Rattle.std.specs.Prelude.{Option}
-use Rattle.std.specs.List.{AllByRecursion, flat_map, slice_get}
+use Rattle.std.specs.List.{AllByRecursion, flat_map}
 use Rattle.std.specs.Option.{option_map}
 use Rattle.std.specs.FinMap.{entries, entries-from_sorted, from_sorted, is_sorted, len, len-entries}
 use Rattle.std.specs.Cmp.Lexicographic.{slice_cmp}

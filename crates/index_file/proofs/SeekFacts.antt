@@ -1,17 +1,16 @@
 -- What is seen of the entries of a bucket, one after the other.
-use Rattle.std.proofs.Common.{◌≡◌, refl, ap, sym, subst, ◌∙◌, ℕ, suc, zero, ◌+◌, ◌-◌, ◌<◌, ◌≤◌, arith, List, [], ◌∷◌, ◌++◌, length, take, drop, get_or, Some, None, true, false, cond}
+use Rattle.std.proofs.Common.{◌≡◌, refl, ap, sym, subst, ◌∙◌, ℕ, ◌+◌, ◌-◌, ◌<◌, ◌≤◌, arith, List, [], ◌∷◌, ◌++◌, length, take, drop, get_or, Some, None, cond}
 use Rattle.std.specs.List.{AllByRecursion, flat_map}
 use Rattle.std.specs.FinMap.{find}
 use Rattle.std.specs.Cmp.Lexicographic.{slice_cmp}
 use Rattle.std.specs.Ordering.{eq_by_cmp, nat_cmp}
 use Rattle.std.proofs.lemmas.List.{append_assoc, length-append, take_at, drop_at, drop_more, drop_all}
 use Rattle.index_level0.specs.Levels.{Entry}
-use Rattle.index_file.specs.declared.seeking.Front.{Front}
 use Rattle.index_file.specs.declared.seeking.Front.TheVariants.{Found, NoEntry, Other}
 use Rattle.index_file.specs.Buckets.{Pair, PairFits, entry_bytes, place_bytes, u32_bytes, u64_bytes}
-use Rattle.index_file.specs.Reading.{AreEntries, IsBucket}
-use Rattle.index_file.specs.Seeking.{IsSeen, Sees}
-use Rattle.index_file.proofs.Fronts.{length-u32, length-u64, place_front}
+use Rattle.index_file.specs.Reading.{AreEntries}
+use Rattle.index_file.specs.Seeking.{Sees}
+use Rattle.index_file.proofs.Fronts.{length-u32, length-u64}
 use Rattle.index_file.proofs.ReadingFacts.{rest_is, twice}
 
 -- ---- how many bytes a place takes

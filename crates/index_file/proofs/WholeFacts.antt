@@ -1,7 +1,7 @@
 -- Buckets that were found whole.
 use Rattle.std.proofs.Common.{◌≡◌, sym, subst, ◌∙◌, ℕ, Bool as Truth, true, false, get_or, ◌⊎◌, List, [], All, ◌<◌, length, Some, None, inl, inr}
 use Rattle.std.proofs.Math.Dec.{T_prop}
-use Rattle.std.proofs.Math.Logic.{∥∥₁_map, ∥∥₁_prop}
+use Rattle.std.proofs.Math.Logic.{∥∥₁_map}
 use Rattle.std.proofs.Math.Path.{PathP, to_path_p}
 use Rattle.std.specs.Prelude.{Option}
 use Rattle.std.specs.Coded.{Coded-set, coded_ℕ, coded_bool, coded_list, coded_option, coded×, le_prop, ×_prop, Π_prop, →_prop, Unit-prop}

@@ -49,7 +49,7 @@ module _ {F : Type 0} (base number : F → ℕ) (footer : F → IndexFooter) (vi
       → IsBucketDamage (base y) (footer y) (number y) (view y) damaged → IsBucketDamage (base x) (footer x) (number x) (view x) damaged
   bucket_half x y b n f s damaged h =
       let both = carried (λ base number footer bytes. (h.bucket < length footer.buckets) × IsDamage number (part.Bucket h.bucket) (λ shown. OnFile (seen bytes) (λ file. OfBucket footer h.bucket (λ mark.
-          BucketShown (length footer.buckets) h.bucket base mark.length (bucket_in file mark) shown))) damaged) x y b n f s (h.there, h.is) in
+      BucketShown (length footer.buckets) h.bucket base mark.length (bucket_in file mark) shown))) damaged) x y b n f s (h.there, h.is) in
       record { bucket = h.bucket; there = both.0; is = both.1 }
 
   file_half : (x y : F) → base y ≡ base x → number y ≡ number x → footer y ≡ footer x → (view y).bytes ≡ (view x).bytes → (shown : Damaged)
@@ -67,3 +67,15 @@ module _ {F : Type 0} (base number : F → ℕ) (footer : F → IndexFooter) (vi
     damage_at = λ k d. (at_half new old (sym b) (sym n) (sym f) (sym s) k d, at_half old new b n f s k d);
     damage = λ d. (file_half new old (sym b) (sym n) (sym f) (sym s) d, file_half old new b n f s d);
   }
+
+-- what is seen of an index file
+pub record FileIs : Type 0 where
+  pub base : ℕ
+  pub number : ℕ
+  pub footer : IndexFooter
+  pub view : ReaderView
+
+pub same_file : (old new : FileIs) → new.base ≡ old.base → new.number ≡ old.number → new.footer ≡ old.footer → new.view.bytes ≡ old.view.bytes
+    → IsSame (λ (f : FileIs) level. HasLevel f.base f.footer f.view level) (λ (f : FileIs) key entry. HasEntry f.base f.footer f.view key entry) (λ (f : FileIs) level. ReadsAs f.base f.footer f.view level)
+    (λ (f : FileIs) key shown. IsDamageAt f.base f.footer f.number f.view key shown) (λ (f : FileIs) shown. IsFileDamage f.base f.footer f.number f.view shown) old new
+same_file old new b n f s = file_same (λ (f : FileIs). f.base) (λ (f : FileIs). f.number) (λ (f : FileIs). f.footer) (λ (f : FileIs). f.view) old new b n f s

@@ -139,9 +139,10 @@ impl<F: FileLevel> PkIndex<F> {
         if let Some(entry) = self.level0.get(key) {
             return Ok(entry);
         }
-        match probe_all(alloc, &mut self.files, key)? {
-            Some(entry) => Ok(entry),
-            None => Ok(None),
+        match probe_all(alloc, &mut self.files, key) {
+            Ok(Some(entry)) => Ok(entry),
+            Ok(None) => Ok(None),
+            Err(fault) => Err(fault),
         }
     }
 
@@ -168,7 +169,10 @@ impl<F: FileLevel> PkIndex<F> {
         let count = self.mark();
         let kept = if count < most { count } else { keep };
         let above = (count - kept) as usize;
-        let all = merge_newest(alloc, &self.level0, &mut self.files, above)?;
+        let all = match merge_newest(alloc, &self.level0, &mut self.files, above) {
+            Ok(all) => all,
+            Err(fault) => return Err(fault),
+        };
         if count >= most && keep == 0 {
             return Ok((places(all), kept));
         }
@@ -251,7 +255,10 @@ impl<F: FileLevel> PkIndex<F> {
         ensures aside { self.new.aside ≡ self.old.aside }
     {
         let above = self.files.len() - mark as usize;
-        let all = merge_newest(alloc, &self.level0, &mut self.files, above)?;
+        let all = match merge_newest(alloc, &self.level0, &mut self.files, above) {
+            Ok(all) => all,
+            Err(fault) => return Err(fault),
+        };
         Ok(all)
     }
 

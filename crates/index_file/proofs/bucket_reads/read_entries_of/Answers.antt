@@ -1,6 +1,5 @@
-use Rattle.std.proofs.Common.{◌≡◌, ◌∙◌, ap, length, subst, sym, List, ℕ}
+use Rattle.std.proofs.Common.{◌∙◌, ap, length, subst, List, ℕ}
 use Rattle.index_file.specs.Entries.{IsTheBucket}
-use Rattle.index_file.specs.Reads.{bucket_in}
 use Rattle.index_file.proofs.ReaderFacts.{failed_after, outside_damage, read_damage}
 use Rattle.index_file.proofs.bucket_reads.read_entries_of.Goals as goal
 

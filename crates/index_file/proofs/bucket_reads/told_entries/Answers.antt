@@ -1,4 +1,4 @@
-use Rattle.std.proofs.Common.{◌≡◌, subst, length, List, ℕ}
+use Rattle.std.proofs.Common.{subst, length, ℕ}
 use Rattle.dev_traits.specs.declared.faults.Part.TheVariants as part
 use Rattle.index_file.specs.declared.footers.BucketMark.{BucketMark}
 use Rattle.index_file.specs.Entries.{BucketShown, IsTheBucket}

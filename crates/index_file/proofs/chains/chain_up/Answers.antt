@@ -1,6 +1,5 @@
-use Rattle.std.proofs.Common.{◌≡◌, ◌-◌, ◌∙◌, ap, refl, sym, arith, length, get_or}
+use Rattle.std.proofs.Common.{◌≡◌, ◌-◌, refl, arith, length, get_or}
 use Rattle.std.proofs.lemmas.List.{get_or_read}
-use Rattle.index_file.specs.Buckets.{Pair, bucket_of}
 use Rattle.index_file.proofs.ChainFacts.{all_fit, chained_step, few_in, fit_step, none_chained, none_fit}
 use Rattle.index_file.proofs.chains.chain_up.Goals as goal
 

@@ -1,11 +1,11 @@
-use Rattle.std.proofs.Common.{◌≡◌, ◌<◌, ◌∙◌, ap, sym, subst, arith, length, ℕ}
+use Rattle.std.proofs.Common.{◌<◌, ◌∙◌, ap, sym, subst, arith, length, ℕ}
 use Rattle.std.proofs.Math.Logic.{∥∥₁_elim}
 use Rattle.std.specs.Option.{option_map}
 use Rattle.std.specs.FinMap.{find}
 use Rattle.std.specs.Cmp.Lexicographic.{slice_cmp}
 use Rattle.std.specs.Ordering.{nat_cmp}
 use Rattle.dev_traits.specs.declared.faults.Part.TheVariants as part
-use Rattle.index_file.specs.Buckets.{Pair, bucket_of}
+use Rattle.index_file.specs.Buckets.{bucket_of}
 use Rattle.index_file.specs.Entries.{BucketShown, sums_fit, with_base}
 use Rattle.index_file.specs.Reads.{bucket_in, IsDamage, OfBucket, OnDamage, OnFile}
 use Rattle.index_file.specs.Listing.{HasEntryIn}

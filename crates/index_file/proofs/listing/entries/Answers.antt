@@ -1,4 +1,4 @@
-use Rattle.std.proofs.Common.{◌≡◌, ◌≤◌, ◌∙◌, ap, sym, subst, arith, length, List, ℕ, T, refl, inr, rules}
+use Rattle.std.proofs.Common.{◌∙◌, ap, sym, subst, arith, length, List, ℕ, T, refl, inr, rules}
 use Rattle.std.specs.FinMap.{entries, entries_sorted, from_entries, is_sorted}
 use Rattle.std.specs.Cmp.Lexicographic.{slice_cmp, nat_list_cmp_total}
 use Rattle.std.specs.Ordering.{nat_cmp}

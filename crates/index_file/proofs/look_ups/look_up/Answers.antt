@@ -1,11 +1,9 @@
-use Rattle.std.proofs.Common.{◌≡◌, ◌+◌, ◌-◌, ◌∙◌, ap, sym, subst, arith, length, take, List, ℕ, Some}
-use Rattle.std.specs.Prelude.{Option}
+use Rattle.std.proofs.Common.{◌≡◌, ◌-◌, ◌∙◌, ap, sym, subst, arith, length, take, List, ℕ}
 use Rattle.std.proofs.Math.Logic.{∥∥₁_elim}
 use Rattle.std.specs.Option.{option_map}
 use Rattle.std.specs.FinMap.{find}
 use Rattle.std.specs.Cmp.Lexicographic.{slice_cmp}
 use Rattle.std.specs.Ordering.{nat_cmp}
-use Rattle.index_level0.specs.Levels.{Entry}
 use Rattle.index_file.specs.Buckets.{Pair}
 use Rattle.index_file.specs.Entries.{IsTheBucket, sums_fit, with_base}
 use Rattle.index_file.specs.Reads.{bucket_in}

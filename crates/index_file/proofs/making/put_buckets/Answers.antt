@@ -1,4 +1,4 @@
-use Rattle.std.proofs.Common.{◌≡◌, ◌+◌, ◌∙◌, ◌++◌, drop, ap, List, arith}
+use Rattle.std.proofs.Common.{◌+◌, ◌∙◌, ◌++◌, drop, ap, List, arith}
 use Rattle.index_file.specs.Buckets.{buckets_of, in_bucket, marks_from}
 use Rattle.index_file.specs.declared.footers.BucketMark.{BucketMark}
 use Rattle.index_file.proofs.MakingFacts.{level_of, made_all, made_next, marks_all, marks_next, next_bucket, no_bucket}

@@ -1,6 +1,4 @@
-use Rattle.std.proofs.Common.{◌≡◌, ◌∙◌, ap, arith, sym, length, List, ℕ, ◌++◌, refl}
-use Rattle.std.specs.Prelude.{Option}
-use Rattle.std.specs.Option.{option_map}
+use Rattle.std.proofs.Common.{◌∙◌, arith, sym, length}
 use Rattle.index_file.proofs.MakingFacts.{file_of, footer_made, level_of, made_footer, whole_file}
 use Rattle.index_file.proofs.making.write_index.Goals as goal
 

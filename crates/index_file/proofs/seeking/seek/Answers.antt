@@ -1,4 +1,4 @@
-use Rattle.std.proofs.Common.{◌≡◌, ◌<◌, ◌≤◌, ap, arith, length, List, ℕ, Some}
+use Rattle.std.proofs.Common.{ap, arith, length, List, ℕ, Some}
 use Rattle.std.proofs.lemmas.List.{length-drop}
 use Rattle.index_level0.specs.Levels.{Entry}
 use Rattle.std.specs.Prelude.{Option}
