@@ -139,10 +139,13 @@ impl<F: FileLevel> PkIndex<F> {
         if let Some(entry) = self.level0.get(key) {
             return Ok(entry);
         }
-        match probe_all(alloc, &mut self.files, key) {
-            Ok(Some(entry)) => Ok(entry),
-            Ok(None) => Ok(None),
-            Err(fault) => Err(fault),
+        let found = match probe_all(alloc, &mut self.files, key) {
+            Ok(found) => found,
+            Err(fault) => return Err(fault),
+        };
+        match found {
+            Some(entry) => Ok(entry),
+            None => Ok(None),
         }
     }
 
