@@ -1,5 +1,5 @@
 -- Files that calls leave as they were, and whose damage is told.
-use Rattle.std.proofs.Common.{◌≡◌, ◌↔◌, refl, ap, sym, subst, ◌∙◌, ℕ, suc, zero, ◌+◌, ◌-◌, ◌<◌, ◌≤◌, arith, List, [], ◌∷◌, length, take, drop, get_or, slice_set, inl, inr, Option, None}
+use Rattle.std.proofs.Common.{◌≡◌, sym, subst, ◌∙◌, ℕ, suc, zero, ◌+◌, ◌<◌, arith, List, [], ◌∷◌, length, take, drop, get_or, slice_set, inl, inr, Option}
 use Rattle.std.proofs.lemmas.Grind.{drop_more_same}
 use Rattle.std.proofs.lemmas.List.{drop_more}
 use Rattle.dev_traits.specs.declared.faults.Damaged.{Damaged}

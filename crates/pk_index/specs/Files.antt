@@ -1,5 +1,5 @@
 -- What calls that read files leave of them, and whose damage is told.
-use Rattle.std.specs.Prelude.{◌⊎◌, ◌↔◌, ℕ, List, [], ◌∷◌, Option, None, ⊤}
+use Rattle.std.specs.Prelude.{◌⊎◌, ◌↔◌, ℕ, List, [], ◌∷◌, Option, ⊤}
 use Rattle.dev_traits.specs.declared.faults.Damaged.{Damaged}
 use Rattle.pk_index.specs.declared.faults.IndexFault.{IndexFault}
 use Rattle.pk_index.specs.declared.faults.IndexFault.TheVariants as index
