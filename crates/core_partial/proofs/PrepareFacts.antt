@@ -186,9 +186,10 @@ told-still s stored (p ∷ ps) (q ∷ qs) e h =
     let same : still p ≡ still q = first_still (still p) (still q) (map still ps) (map still qs) e in
     let dead : q.dead ≡ p.dead = sym (ap (λ (x : PartView). x.dead) same) in
     let number : q.number ≡ p.number = sym (ap (λ (x : PartView). x.number) same) in
-    let piece : IsPieceOf s q (record { rows = stored p.number; dead = p.dead }) = piece-still s p q (record { rows = stored p.number; dead = p.dead }) same h.0 in
-    (subst (λ (x : Piece). IsPieceOf s q x) (λ i. record { rows = stored (sym number i); dead = sym dead i }) piece,
-    told-still s stored ps qs (rest_still (still p) (still q) (map still ps) (map still qs) e) h.1)
+    let piece : IsPieceOf s q (record { rows = stored p.number; dead = p.dead }) = piece-still s p q (record { rows = stored p.number; dead = p.dead }) same h.0 in (
+      subst (λ (x : Piece). IsPieceOf s q x) (λ i. record { rows = stored (sym number i); dead = sym dead i }) piece,
+      told-still s stored ps qs (rest_still (still p) (still q) (map still ps) (map still qs) e) h.1,
+    )
 
 pub found-stays : (f g : FoundView) → SameButCounts f.snapshot g.snapshot → g.load ≡ f.load → g.located ≡ f.located → (m : Rows) → IsFoundOf f m → IsFoundOf g m
 found-stays f g same load located m h =

@@ -19,10 +19,11 @@ returns-clause-stays g c =
 pub invariant_of-result : goal.invariant_of-result
 invariant_of-result g c =
     let schema = (c.of.ensures ∙ c.schema-schema.ensures ∙ ap (λ (f : FoundView). f.snapshot.schema) c.found.view_is ∙ c.found_keys.ensures.same.schema) in
-    let rows = (ap (λ v. v.items) c.of-2.ensures) in
-    (c.into_vec-given.ensures ∙ ap (λ (l : Load). l.given) (sym c.of-kept.ensures),
-    λ unspent. is-prepared c.args.found.now c.in_ok-keys.field-0 _ c.in_ok-keys.ensures.keys schema (c.of-kept.ensures ∙ sym c.requires.located) refl rows
-    (sealed-same _ _ _ _ _ (c.schema-schema.ensures ∙ ap (λ (f : FoundView). f.snapshot.schema) c.found.view_is ∙ c.found_keys.ensures.same.schema) c.deref-2.ensures.value c.in_ok-files.ensures.sealed))
+    let rows = (ap (λ v. v.items) c.of-2.ensures) in (
+      c.into_vec-given.ensures ∙ ap (λ (l : Load). l.given) (sym c.of-kept.ensures),
+      λ unspent. is-prepared c.args.found.now c.in_ok-keys.field-0 _ c.in_ok-keys.ensures.keys schema (c.of-kept.ensures ∙ sym c.requires.located) refl rows
+          (sealed-same _ _ _ _ _ (c.schema-schema.ensures ∙ ap (λ (f : FoundView). f.snapshot.schema) c.found.view_is ∙ c.found_keys.ensures.same.schema) c.deref-2.ensures.value c.in_ok-files.ensures.sealed),
+    )
 
 pub returns-clause-over : goal.returns-clause-over
 returns-clause-over g c =
