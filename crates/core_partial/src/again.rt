@@ -39,7 +39,10 @@ fn add_place(places: &mut Vec<Place>, place: Option<Place>) -> Result<(), AllocE
 {
     match place {
         None => Ok(()),
-        Some(place) => places.push(place),
+        Some(place) => {
+            places.push(place)?;
+            Ok(())
+        }
     }
 }
 

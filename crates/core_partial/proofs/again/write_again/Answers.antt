@@ -52,7 +52,7 @@ loop-chunk-preserved g c =
           subst (λ fs. WritesOn s c.args.rows.now later fs) (sym pushed)
           (writes-more s c.args.rows.now rest chunk later (map see c.loop-chunk.files.items) (see made) steps.1.0 long steps.1.2 inv.sealed
           (chunk-rows s rest chunk later steps.1.0 long steps.1.2 inv.fit inv.rise) sealed footer);
-      rests = rests_then g.S.Store.view c.args.state.now c.loop-chunk.state c.write_rows.new.state inv.rests c.in_ok-made.ensures.rests;
+      rests = rests_then g.S.Store.view c.args.state.now c.loop-chunk.state c.write_rows.new.self inv.rests c.in_ok-made.ensures.rests;
       unfailed = c.in_ok-made.ensures.cause.well (λ e. cc) ∙ inv.unfailed;
     }
 
@@ -63,21 +63,21 @@ returns-clause-sealed g c =
 
 pub returns-in_err-made-clause-has : goal.returns-in_err-made-clause-has
 returns-in_err-made-clause-has g c b h =
-    has_rests g.S.Store.view c.args.state.now c.write_rows.new.state b
-    (rests_then g.S.Store.view c.args.state.now c.loop-chunk.state c.write_rows.new.state c.loop-chunk.invariant.rests c.in_err-made.ensures.rests) h
+    has_rests g.S.Store.view c.args.state.now c.write_rows.new.self b
+    (rests_then g.S.Store.view c.args.state.now c.loop-chunk.state c.write_rows.new.self c.loop-chunk.invariant.rests c.in_err-made.ensures.rests) h
 
 pub returns-in_err-made-clause-cause : goal.returns-in_err-made-clause-cause
 returns-in_err-made-clause-cause g c =
     let cause = c.in_err-made.ensures.cause in
     record {
       well = λ other. cause.well other ∙ c.loop-chunk.invariant.unfailed;
-      failed = λ is. subst (λ n. Counts 1 n (faults_of g.S.Store.view c.write_rows.new.state)) c.loop-chunk.invariant.unfailed (cause.failed is);
+      failed = λ is. subst (λ n. Counts 1 n (faults_of g.S.Store.view c.write_rows.new.self)) c.loop-chunk.invariant.unfailed (cause.failed is);
     }
 
 pub returns-in_err-push-clause-has : goal.returns-in_err-push-clause-has
 returns-in_err-push-clause-has g c b h =
-    has_rests g.S.Store.view c.args.state.now c.write_rows.new.state b
-    (rests_then g.S.Store.view c.args.state.now c.loop-chunk.state c.write_rows.new.state c.loop-chunk.invariant.rests c.in_ok-made.ensures.rests) h
+    has_rests g.S.Store.view c.args.state.now c.write_rows.new.self b
+    (rests_then g.S.Store.view c.args.state.now c.loop-chunk.state c.write_rows.new.self c.loop-chunk.invariant.rests c.in_ok-made.ensures.rests) h
 
 pub returns-clause-has : goal.returns-clause-has
 returns-clause-has g c b h = has_rests g.S.Store.view c.args.state.now c.loop-chunk.state b c.loop-chunk.invariant.rests h
