@@ -1,8 +1,10 @@
 -- States whose readers may have been read, one after the other.
 use Rattle.std.proofs.Common.{◌≡◌, refl, ap, sym, subst, ◌∙◌, ℕ, ◌+◌, ◌-◌, ◌^◌, ◌≤◌, min, List, map, arith}
-use Rattle.std.specs.Prelude.{Result, IsErrOf}
-use Rattle.dev_traits.specs.Causes.{Counts, HasReadCause}
+use Rattle.std.specs.Prelude.{Result, Err, IsErrOf}
+use Rattle.dev_traits.specs.Causes.{Counts, HasMakeCause, HasReadCause}
 use Rattle.dev_traits.specs.View.{View}
+use Rattle.dev_traits.specs.declared.faults.MakeFault.{MakeFault}
+use Rattle.dev_traits.specs.declared.faults.MakeFault.TheVariants as make
 use Rattle.dev_traits.specs.declared.faults.ReadFault.{ReadFault}
 use Rattle.dev_traits.specs.declared.faults.ReadFault.TheVariants as read
 use Rattle.dev_traits.proofs.Moments.{calm_none, calm_then}
@@ -56,3 +58,15 @@ has_rests view a new b r h = has_lends view a new b (rests_lends view a new r) h
 
 pub lends_none : {S : Type 0} (view : S → View) (a : Shown S) → Lends view a a
 lends_none view a = record { calm = calm_none (view a.store); area = refl; end = refl; contents = refl; segments = refl; closed = refl }
+
+-- ---- a maker's fault that is handed on
+
+err_same : {T : Type 0} (e f : MakeFault) → ◌≡◌ {A = Result T MakeFault} (Err e) (Err f) → e ≡ f
+err_same e f is = cc
+
+pub cause_made : {T U : Type 0} (old mid new : ℕ) (first : Result T MakeFault) (e : MakeFault) (result : Result U MakeFault) → first ≡ Err e → result ≡ Err e → mid ≡ old
+    → HasMakeCause mid new first → HasMakeCause old new result
+cause_made {T} {U} old mid new first e result is so same cause = record {
+  well = λ n. cause.well (λ h. n (so ∙ ap (λ (x : MakeFault). Err x) (err_same {T} e make.StoreFault (sym is ∙ h)))) ∙ same;
+  failed = λ h. subst (λ (n : ℕ). Counts 1 n new) same (cause.failed (is ∙ ap (λ (x : MakeFault). Err x) (err_same {U} e make.StoreFault (sym so ∙ h))));
+}
