@@ -1,9 +1,8 @@
 use Rattle.std.proofs.Common.{◌≡◌, ◌∙◌, ◌++◌, ◌∷◌, [], ap, sym, subst, rules, min, ℕ, map, length}
 use Rattle.std.specs.Slice.Iter.{chunks_rest, chunks_size}
-use Rattle.std.specs.Prelude.{List, Option, Some}
+use Rattle.std.specs.Prelude.{List, Option, Some, Err}
+use Rattle.std.proofs.lemmas.Result.{err_from_is_err_and}
 use Rattle.std.proofs.lemmas.Option.{MatchOption-at_none}
-use Rattle.dev_traits.specs.Causes.{Counts}
-use Rattle.tablet_state.specs.State.{faults_of}
 use Rattle.column_page.specs.declared.footers.Footer.{Footer}
 use Rattle.pk_values.specs.Schemas.{Layout}
 use Rattle.std.proofs.lemmas.List.{map-append}
@@ -12,7 +11,7 @@ use Rattle.segment_write.specs.declared.segments.Made.{Made}
 use Rattle.tablet_state.specs.Contents.{Contents}
 use Rattle.core_publish.specs.Writing.{WritesOn}
 use Rattle.core_publish.proofs.FileFacts.{chunk-long, chunk-rows, later-fit, later-rise, writes-all, writes-more}
-use Rattle.core_partial.proofs.LendFacts.{has_rests, rests_then}
+use Rattle.core_partial.proofs.LendFacts.{cause_made, has_rests, rests_then}
 use Rattle.core_partial.proofs.again.write_again.Goals as goal
 
 pub write_rows-requires : goal.write_rows-requires
@@ -68,11 +67,8 @@ returns-in_err-made-clause-has g c b h =
 
 pub returns-in_err-made-clause-cause : goal.returns-in_err-made-clause-cause
 returns-in_err-made-clause-cause g c =
-    let cause = c.in_err-made.ensures.cause in
-    record {
-      well = λ other. cause.well other ∙ c.loop-chunk.invariant.unfailed;
-      failed = λ is. subst (λ n. Counts 1 n (faults_of g.S.Store.view c.write_rows.new.self)) c.loop-chunk.invariant.unfailed (cause.failed is);
-    }
+    let p = err_from_is_err_and c.from_residual-in_err-made.result c.from_residual-in_err-made.ensures.1 in
+    cause_made _ _ _ c.write_rows.result _ c.from_residual-in_err-made.result c.in_err-made.was (p.1 ∙ ap (λ x. Err x) p.2) c.loop-chunk.invariant.unfailed c.write_rows.ensures.cause
 
 pub returns-in_err-push-clause-has : goal.returns-in_err-push-clause-has
 returns-in_err-push-clause-has g c b h =
