@@ -2,23 +2,41 @@
 use Rattle.std.proofs.Common.{◌≡◌, refl, ap, sym, subst, ◌∙◌, ℕ, List, map, None, T}
 use Rattle.std.specs.Prelude.{All, IsTrue}
 use Rattle.std.specs.List.{AllByRecursion}
+use Rattle.dev_traits.specs.declared.faults.Damaged.{Damaged}
+use Rattle.pk_values.specs.declared.cells.Value.{Value}
+use Rattle.pk_model.specs.Tables.{Rows}
 use Rattle.pk_values.specs.Schemas.{Layout, fits_row, schema_fault}
 use Rattle.pk_model.specs.Lawful.{IsLawful}
 use Rattle.segment_form.specs.Segments.{KeysRise}
 use Rattle.partial_loads.specs.Folded.{HasCode, rise_strictly}
-use Rattle.partial_loads.specs.Making.{HaveChanges}
+use Rattle.partial_loads.specs.Making.{HaveChanges, made_rows}
 use Rattle.tablet_state.specs.Contents.{Contents}
 use Rattle.tablet_state.specs.Readies.{NewSegment}
 use Rattle.tablet_state.specs.State.{SegmentView}
 use Rattle.core_publish.specs.Prepared.{AreSealedOf, files_of}
 use Rattle.core_partial.specs.Again.{AreRemade}
-use Rattle.core_partial.specs.Moving.{IsAgain, IsRemade, is_moved_key, moved_keys}
+use Rattle.core_partial.specs.Moving.{IsAgain, IsReadDamage, IsRemade, is_moved_key, moved_keys}
 use Rattle.core_partial.specs.Prepared.{AgainView, IsPreparedPartial, PreparedPartialView, folded_of}
 use Rattle.core_partial.specs.declared.again.Remade.{Remade}
 use Rattle.core_partial.specs.declared.keys.PreparedKey.{PreparedKey}
 use Rattle.core_partial.proofs.ChangeFacts.{AreCoded, coded-of, some-changes, some-coded}
 use Rattle.core_partial.proofs.RemakeFacts.{is-again, made-of-now, rows-fit, rows-rise}
 use Rattle.core_partial.proofs.SubFacts.{keys_in, rises-filtered}
+
+-- the same of equal columns, version and keys
+pub remade_same : (c : Contents) (segs : List SegmentView) (given here : List ℕ) (v w : ℕ) (ks ls : List PreparedKey) (remade : Remade) → given ≡ here → v ≡ w → ks ≡ ls → AreRemade c segs given (moved_keys c v ks) remade
+    → AreRemade c segs here (moved_keys c w ls) remade
+remade_same c segs given here v w ks ls remade same at keys h =
+    subst (λ (xs : List PreparedKey). AreRemade c segs here (moved_keys c w xs) remade) keys
+    (subst (λ (n : ℕ). AreRemade c segs here (moved_keys c n ks) remade) at (subst (λ (g : List ℕ). AreRemade c segs g (moved_keys c v ks) remade) same h))
+
+pub damage_same : (c : Contents) (segs : List SegmentView) (v w : ℕ) (ks ls : List PreparedKey) (d : Damaged) → v ≡ w → ks ≡ ls → IsReadDamage c segs (moved_keys c v ks) d → IsReadDamage c segs (moved_keys c w ls) d
+damage_same c segs v w ks ls d at keys h =
+    subst (λ (xs : List PreparedKey). IsReadDamage c segs (moved_keys c w xs) d) keys (subst (λ (n : ℕ). IsReadDamage c segs (moved_keys c n ks) d) at h)
+
+pub over_same : (c : Contents) (s t : Layout) (given here : List ℕ) (m : Rows) (v w : ℕ) (ks ls : List PreparedKey) (rows : List (List Value)) → s ≡ t → given ≡ here → v ≡ w → ks ≡ ls
+    → rows ≡ made_rows s given m (map folded_of (moved_keys c v ks)) → rows ≡ made_rows t here m (map folded_of (moved_keys c w ls))
+over_same c s t given here m v w ks ls rows schema same at keys h = h ∙ (λ i. made_rows (schema i) (same i) m (map folded_of (moved_keys c (at i) (keys i))))
 
 -- its keys have their codes
 pub keys_coded : (s : Layout) (p : PreparedPartialView) → p.schema ≡ s → IsPreparedPartial p → AllByRecursion (λ k. HasCode s (folded_of k)) p.keys

@@ -1,9 +1,9 @@
 -- Rows and damage that are told of one key of several, when readers were read meanwhile.
-use Rattle.std.proofs.Common.{◌≡◌, ◌⊎◌, inl, inr, refl, ap, sym, subst, ◌∙◌, ℕ, zero, suc, ◌/◌, ◌%◌, List, [], ◌∷◌, Option, Some, None, Bool as Truth, true, false, cond, slice_get}
+use Rattle.std.proofs.Common.{◌≡◌, ◌≢◌, ◌⊎◌, inl, inr, refl, ap, sym, subst, ◌∙◌, ℕ, zero, suc, ◌/◌, ◌%◌, List, [], ◌∷◌, Option, Some, None, Bool as Truth, true, false, cond, slice_get}
 use Rattle.std.specs.List.{filter}
 use Rattle.dev_traits.specs.declared.faults.Damaged.{Damaged}
 use Rattle.index_level0.specs.declared.place.Place.{Place}
-use Rattle.pk_values.specs.Schemas.{Layout}
+use Rattle.pk_values.specs.Schemas.{Layout, key_of}
 use Rattle.pk_values.specs.declared.cells.Value.{Value}
 use Rattle.tablet_state.specs.Contents.{Contents, current_number}
 use Rattle.tablet_state.specs.Moving.{keeps_live}
@@ -99,7 +99,7 @@ damage_lent c now segs later v keys i key d contents same at h = go (subst (λ (
   where
     other : (k : PreparedKey) (p : Place) → (keeps_live c (current_number c) p ≡ false) ⊎ HasOtherAt c.schema later p k.key → (keeps_live c (current_number c) p ≡ false) ⊎ HasOtherAt c.schema segs p k.key
     other k p (inl e) = inl e
-    other k p (inr g) = inr (at-lent c.schema segs later p _ same g)
+    other k p (inr g) = inr (at-lent c.schema segs later p (λ row. key_of c.schema row ≢ k.key) same g)
 
     go : IsReadDamage c later (moved_keys c v (key ∷ [])) d → IsReadDamage c segs (moved_keys c v keys) d
     go (inl a) = inl (record { told = a.told; key = a.key; place = a.place; asks = asks-among c (is_moved_key c v) keys i key a.key a.place at a.asks; wrong = other a.key a.place a.wrong })

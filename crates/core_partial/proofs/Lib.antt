@@ -8,6 +8,7 @@ pub mod TurnFacts
 pub mod HeldFacts
 pub mod LoopFacts
 pub mod ReadFacts
+pub mod RowFacts
 pub mod DamageFacts
 pub mod KeyFacts
 pub mod FewFacts

@@ -7,6 +7,8 @@ use Rattle.std.proofs.lemmas.List.{map-append, take_more}
 use Rattle.rowsets.specs.Indexing.{CodeMap, CodeMove}
 use Rattle.core_publish.specs.Publishing.{stored_places}
 use Rattle.core_publish.proofs.LoopFacts.{stored-more}
+use Rattle.partial_loads.specs.declared.folds.Folded.{Folded}
+use Rattle.core_partial.specs.Found.{codes_of}
 use Rattle.core_partial.specs.Prepared.{made_move}
 use Rattle.core_partial.specs.declared.keys.PreparedKey.{PreparedKey}
 
@@ -27,3 +29,9 @@ pub at-index : {X : Type 0} (P : X → Type 0) (xs : List X) (i : ℕ) (x : X) �
 at-index P [] i x h lt is = absurd (omega arith)
 at-index P (y ∷ xs) zero x h lt is = subst P (sym is) h.0
 at-index P (y ∷ xs) (suc i) x h lt is = at-index P xs i x h.1 (omega arith) is
+
+-- one more key that was located
+pub codes_step : (located now : List CodeMove) (fs : List Folded) (i : ℕ) (f : Folded) (e : CodeMove) → now ≡ located ++ e ∷ [] → e.0 ≡ f.code → i < length fs → f ≡ get_or fs i f
+    → codes_of located ≡ map (λ (x : Folded). x.code) (take i fs) → codes_of now ≡ map (λ (x : Folded). x.code) (take (i + 1) fs)
+codes_step located now fs i f e at code lt is before =
+    ap codes_of at ∙ map-append (λ (x : CodeMove). x.0) located (e ∷ []) ∙ (λ j. before j ++ code j ∷ []) ∙ sym (mapped-step (λ (x : Folded). x.code) fs i f lt is)

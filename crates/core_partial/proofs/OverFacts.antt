@@ -98,7 +98,7 @@ module _ {S : Type 0} (view : S → View) (st : Shown S) (b : Book) (h : Has vie
       let kept = (kept_are_held c.schema (λ v. book.images.stored) (held (versions_of c) (index_of c) (begun_of c)) b v book.images.holds.holds).0 m e in
       stood_keys_first c.schema (live book.images.stored (parts_of kept.0)) m kept.2
 
-  now_first : KeysStandFirst c.schema b.current
+  pub now_first : KeysStandFirst c.schema b.current
   now_first = stood_keys_first c.schema (live book.images.stored (parts_of (rowsets_of (versions_of c).current))) b.current book.images.holds.holds.current
 
   module _ (p : PreparedPartialView) (again : AgainView) (same : p.schema ≡ c.schema) (is : IsPreparedPartial p) (is_again : IsAgain p.schema (moved_keys c p.version p.keys) again)

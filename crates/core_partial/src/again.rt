@@ -1,4 +1,4 @@
-ghost use Rattle.std.specs.Prelude.{◌≡◌, ◌+◌, ◌≤◌, ◌∷◌, [], All, IfErr, IfOk, IsTrue, OnOk, false, length, map};
+ghost use Rattle.std.specs.Prelude.{◌≡◌, ◌+◌, ◌++◌, ◌≤◌, ◌∷◌, [], All, IfErr, IfOk, IsTrue, OnOk, false, length, map, option_to_list};
 ghost use Rattle.std.specs.List.{AllByRecursion};
 ghost use Rattle.dev_traits.specs.Causes.{HasMakeCause, HasReadCause};
 ghost use Rattle.pk_values.specs.Schemas.{fits_row};
@@ -23,7 +23,7 @@ use dev_traits::{FileMaker, MakeFault, ReadFault, SealedReader, Store};
 use index_level0::Place;
 use pk_values::{Row, Schema};
 use segment_write::Made;
-use std::alloc::Global;
+use std::alloc::{AllocError, Global};
 use tablet_state::State;
 
 /// The rows of keys that moved, where they stand, and the places of the rows that were made of these keys before.
@@ -31,6 +31,19 @@ use tablet_state::State;
 pub struct Remade {
     pub results: Results,
     pub stale: Vec<Place>,
+}
+
+// Adds a place to others, if there is one.
+fn add_place(places: &mut Vec<Place>, place: Option<Place>) -> Result<(), AllocError>
+    ensures { OnOk result (places.new.items ≡ places.old.items ++ option_to_list place) }
+{
+    match place {
+        None => Ok(()),
+        Some(place) => {
+            places.push(place)?;
+            Ok(())
+        }
+    }
 }
 
 // Makes the row of a key again where the key moved.
@@ -67,9 +80,7 @@ fn remake_key<S: Store>(
     let old = old_row(alloc, state, schema, key, &now)?;
     let row = key.change.apply(alloc, schema, given, None, &key.key, old)?;
     remade.results.add(key.code.copy(), row)?;
-    if let Some(place) = key.made {
-        remade.stale.push(place)?;
-    }
+    add_place(&mut remade.stale, key.made)?;
     Ok(())
 }
 

@@ -1,6 +1,8 @@
 ghost use Rattle.std.specs.Prelude.{◌≡◌, ◌+◌, ◌≤◌, ◌∷◌, [], IfErr, IfOk, IsTrue, List, None, ◌↔◌, Some, true};
 ghost use Rattle.std.specs.FinMap.{get};
+ghost use Rattle.std.specs.Ordering.{eq_by_cmp};
 ghost use Rattle.dev_traits.specs.Causes.{HasReadCause};
+ghost use Rattle.pk_values.specs.Order.{key_cmp};
 ghost use Rattle.pk_values.specs.Schemas.{fits_row, key_of};
 ghost use Rattle.pk_values.specs.declared.cells.Value.{Value};
 ghost use Rattle.pk_model.specs.declared.books.Book.{Book};
@@ -36,13 +38,23 @@ fn astray() -> ReadFault
     })
 }
 
+// Whether a row's key and a key compare equal.
+fn same_key(schema: &Schema, row: &Row, key: &Key) -> bool
+    requires { IsTrue (fits_row schema.now row.now) }
+    ensures { result ≡ eq_by_cmp key_cmp (key_of schema.now row.now) key.now }
+{
+    let keys = schema.keys() as usize;
+    let there = &row.cells[..keys];
+    let wanted = &key.cells[..];
+    there.cmp(&wanted).is_eq()
+}
+
 // Whether a row has a key.
 fn has_key(schema: &Schema, row: &Row, key: &Key) -> bool
     requires { IsTrue (fits_row schema.now row.now) }
     ensures { IsTrue result ↔ (key_of schema.now row.now ≡ key.now) }
 {
-    let keys = schema.keys() as usize;
-    row.cells[..keys] == key.cells[..]
+    same_key(schema, row, key)
 }
 
 /// Whether a key moved since it was located at a version, where it stands at this place now.

@@ -1,6 +1,7 @@
 use Rattle.std.proofs.Common.{◌≡◌, ◌∙◌, ◌++◌, ◌∷◌, [], ap, sym, subst, rules, min, ℕ, map, length}
 use Rattle.std.specs.Slice.Iter.{chunks_rest, chunks_size}
-use Rattle.std.specs.Prelude.{List, Option, Some}
+use Rattle.std.specs.Prelude.{List, Option, Some, Err}
+use Rattle.std.proofs.lemmas.Result.{err_from_is_err_and}
 use Rattle.std.proofs.lemmas.Option.{MatchOption-at_none}
 use Rattle.column_page.specs.declared.footers.Footer.{Footer}
 use Rattle.pk_values.specs.Schemas.{Layout}
@@ -10,7 +11,7 @@ use Rattle.segment_write.specs.declared.segments.Made.{Made}
 use Rattle.tablet_state.specs.Contents.{Contents}
 use Rattle.core_publish.specs.Writing.{WritesOn}
 use Rattle.core_publish.proofs.FileFacts.{chunk-long, chunk-rows, later-fit, later-rise, writes-all, writes-more}
-use Rattle.core_partial.proofs.LendFacts.{has_rests, rests_then}
+use Rattle.core_partial.proofs.LendFacts.{cause_made, has_rests, rests_then}
 use Rattle.core_partial.proofs.again.write_again.Goals as goal
 
 pub write_rows-requires : goal.write_rows-requires
@@ -50,7 +51,7 @@ loop-chunk-preserved g c =
           subst (λ fs. WritesOn s c.args.rows.now later fs) (sym pushed)
           (writes-more s c.args.rows.now rest chunk later (map see c.loop-chunk.files.items) (see made) steps.1.0 long steps.1.2 inv.sealed
           (chunk-rows s rest chunk later steps.1.0 long steps.1.2 inv.fit inv.rise) sealed footer);
-      rests = rests_then g.S.Store.view c.args.state.now c.loop-chunk.state c.write_rows-made.new.state inv.rests c.in_ok-made.ensures.rests;
+      rests = rests_then g.S.Store.view c.args.state.now c.loop-chunk.state c.write_rows.new.self inv.rests c.in_ok-made.ensures.rests;
       unfailed = c.in_ok-made.ensures.cause.well (λ e. cc) ∙ inv.unfailed;
     }
 
@@ -58,3 +59,21 @@ pub returns-clause-sealed : goal.returns-clause-sealed
 returns-clause-sealed g c =
     writes-all c.args.state.now.contents.schema c.args.rows.now (chunks_rest c.loop-chunk.chunk-iterator) _
     (MatchOption-at_none _ _ c.in-None.is c.next.ensures.steps.1).0 c.loop-chunk.invariant.sealed
+
+pub returns-in_err-made-clause-has : goal.returns-in_err-made-clause-has
+returns-in_err-made-clause-has g c b h =
+    has_rests g.S.Store.view c.args.state.now c.write_rows.new.self b
+    (rests_then g.S.Store.view c.args.state.now c.loop-chunk.state c.write_rows.new.self c.loop-chunk.invariant.rests c.in_err-made.ensures.rests) h
+
+pub returns-in_err-made-clause-cause : goal.returns-in_err-made-clause-cause
+returns-in_err-made-clause-cause g c =
+    let p = err_from_is_err_and c.from_residual-in_err-made.result c.from_residual-in_err-made.ensures.1 in
+    cause_made _ _ _ c.write_rows.result _ c.from_residual-in_err-made.result c.in_err-made.was (p.1 ∙ ap (λ x. Err x) p.2) c.loop-chunk.invariant.unfailed c.write_rows.ensures.cause
+
+pub returns-in_err-push-clause-has : goal.returns-in_err-push-clause-has
+returns-in_err-push-clause-has g c b h =
+    has_rests g.S.Store.view c.args.state.now c.write_rows.new.self b
+    (rests_then g.S.Store.view c.args.state.now c.loop-chunk.state c.write_rows.new.self c.loop-chunk.invariant.rests c.in_ok-made.ensures.rests) h
+
+pub returns-clause-has : goal.returns-clause-has
+returns-clause-has g c b h = has_rests g.S.Store.view c.args.state.now c.loop-chunk.state b c.loop-chunk.invariant.rests h

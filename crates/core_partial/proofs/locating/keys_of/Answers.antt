@@ -1,4 +1,5 @@
 use Rattle.std.proofs.Common.{◌≡◌, ◌∙◌, ap, map}
+use Rattle.std.proofs.lemmas.Result.{IfOk-weaker}
 use Rattle.pk_model.specs.Tables.{key_named}
 use Rattle.pk_model.specs.declared.calls.Op.{Op}
 use Rattle.pk_model.specs.declared.calls.Op.TheVariants.{Delete}
@@ -7,5 +8,14 @@ use Rattle.core_partial.proofs.locating.keys_of.Goals as goal
 
 pub fold_lines-requires : goal.fold_lines-requires
 fold_lines-requires c =
-    short-lines c.args.schema.now c.args.load.now c.in_ok-lines.lines.items c.requires.lawful
-    (c.in_ok-lines.ensures ∙ ap (λ ops. map (λ op. Delete (key_named op)) ops) c.as_slice.ensures)
+    record {
+      short = short-lines c.args.schema.now c.args.load.now c.in_ok-lines.lines.items c.requires.lawful
+          (c.in_ok-lines.ensures ∙ ap (λ ops. map (λ op. Delete (key_named op)) ops) c.as_slice.ensures);
+    }
+
+pub returns : goal.returns
+returns c = record {
+  keys =
+      IfOk-weaker c.fold_lines.result _ _ (λ fs are. keys-of c.args.schema.now c.args.load.now c.in_ok-lines.lines.items fs.items
+      (c.in_ok-lines.ensures ∙ ap (λ ops. map (λ op. Delete (key_named op)) ops) c.as_slice.ensures) are) c.fold_lines.ensures;
+}
