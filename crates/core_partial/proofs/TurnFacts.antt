@@ -183,3 +183,6 @@ fail_spent false old new unspent kept spent = ap (λ (p : PreparedPartialView). 
 pub reads_then : {S : Type 0} (view : S → View) (old mid new : Shown S) (count : ℕ) → Lends view old mid → total_reads mid.segments ≤ total_reads old.segments + count
     → (more : List (ℕ × ℕ)) × (reads_of new.segments ≡ reads_of mid.segments ++ more) × AllByRecursion (λ p. p.1 ≡ 0) more → ReadsAtMost count old.segments new.segments
 reads_then view old mid new count lends most r = record { read = mid.segments; same = lends.segments; most = most; more = r.0; new_are = r.1; unread = r.2 }
+
+pub reads_none : (count : ℕ) (segs : List SegmentView) → ReadsAtMost count segs segs
+reads_none count segs = record { read = segs; same = refl; most = omega arith; more = []; new_are = sym (append-nil (reads_of segs)); unread = tt }

@@ -1,12 +1,13 @@
-use Rattle.std.proofs.Common.{◌≡◌, ◌∙◌, ◌+◌, ◌<◌, ◌≤◌, ◌++◌, ◌∷◌, [], List, None, ap, sym, subst, refl, length, map, take, arith, slice_get}
-use Rattle.std.specs.List.{filter}
+use Rattle.std.proofs.Common.{◌≡◌, ◌∙◌, ◌+◌, ◌<◌, ◌≤◌, ◌++◌, ◌∷◌, [], List, None, ap, sym, subst, refl, length, map, take, arith, rules, slice_get}
+use Rattle.std.specs.Prelude.{Err}
+use Rattle.std.proofs.lemmas.Result.{err_from_is_err_and}
 use Rattle.pk_model.specs.declared.books.Book.{Book}
 use Rattle.pk_values.specs.Schemas.{Layout}
 use Rattle.segment_read.specs.Reads.{OnDamage}
 use Rattle.tablet_state.specs.Contents.{Contents}
 use Rattle.dev_traits.specs.declared.faults.ReadFault.TheVariants as read
 use Rattle.tablet_state.specs.Moving.{total_reads}
-use Rattle.tablet_state.specs.State.{faults_of}
+use Rattle.tablet_state.specs.State.{Has}
 use Rattle.tablet_state.proofs.Counting.{at_index}
 use Rattle.tablet_state.proofs.Lending.{take_whole}
 use Rattle.partial_loads.specs.Folded.{HasCode}
@@ -16,7 +17,7 @@ use Rattle.core_partial.specs.Moving.{IsReadDamage, is_moved_key, moved_keys}
 use Rattle.core_partial.specs.Prepared.{folded_of}
 use Rattle.core_partial.specs.declared.keys.PreparedKey.{PreparedKey}
 use Rattle.core_partial.proofs.DamageFacts.{damage_lent, more_lent}
-use Rattle.core_partial.proofs.LendFacts.{cause_as, has_lends, lends_none, lends_then}
+use Rattle.core_partial.proofs.LendFacts.{cause_handed, has_lends, lends_none, lends_then}
 use Rattle.core_partial.proofs.LoopFacts.{at-index, front-more}
 use Rattle.core_partial.proofs.ReadFacts.{on_damage}
 use Rattle.core_partial.proofs.RemakeFacts.{front-one, long-front, long-more, over-more, remade-more}
@@ -71,20 +72,38 @@ returns-in_err-remake_key-clause-damaged g c =
     let inv = c.loop-key.invariant in
     let st = c.args.state.now in
     let mid = c.loop-key.state in
-    on_damage c.in_err-remake_key.field-0.0 _ _
+    let p = err_from_is_err_and c.from_residual-in_err-remake_key.result c.from_residual-in_err-remake_key.ensures.1 in
+    rw (p.1, p.2)
+    (on_damage c.in_err-remake_key.field-0.0 _ (IsReadDamage st.contents st.segments (moved_keys st.contents c.args.version c.args.keys.now))
     (λ d. damage_lent st.contents mid.contents st.segments mid.segments c.args.version c.args.keys.now c.loop-key.key-index c.key-item.result d inv.lends.contents inv.lends.segments
-    (at_index c.args.keys.now c.loop-key.key-index c.key-item.result c.loop-key-test.true c.key-item.is)) c.in_err-remake_key.ensures.damaged
+    (at_index c.args.keys.now c.loop-key.key-index c.key-item.result c.loop-key-test.true c.key-item.is)) c.in_err-remake_key.ensures.damaged)
 
 pub returns-in_err-remake_key-clause-intact : goal.returns-in_err-remake_key-clause-intact
 returns-in_err-remake_key-clause-intact g c =
     let inv = c.loop-key.invariant in
-    on_damage c.in_err-remake_key.field-0.0 _ _
-    (λ d none b h open_. none b (has_lends g.S.Store.view c.args.state.now c.loop-key.state b inv.lends h) (inv.lends.closed ∙ open_)) c.in_err-remake_key.ensures.intact
+    let view = g.S.Store.view in
+    let st = c.args.state.now in
+    let p = err_from_is_err_and c.from_residual-in_err-remake_key.result c.from_residual-in_err-remake_key.ensures.1 in
+    rw (p.1, p.2)
+    (on_damage c.in_err-remake_key.field-0.0 _ (λ _. (b : Book) → Has view st b → st.closed ≡ None → ⊥)
+    (λ d none b h open_. none b (has_lends view st c.loop-key.state b inv.lends h) (inv.lends.closed ∙ open_)) c.in_err-remake_key.ensures.intact)
 
 pub returns-in_err-remake_key-clause-cause : goal.returns-in_err-remake_key-clause-cause
 returns-in_err-remake_key-clause-cause g c =
-    cause_as read.StoreFault c.in_err-remake_key.field-0.0 (faults_of g.S.Store.view c.args.state.now) (faults_of g.S.Store.view c.loop-key.state) (faults_of g.S.Store.view c.remake_key.new.state)
-    c.loop-key.invariant.unfailed c.in_err-remake_key.ensures.cause
+    let p = err_from_is_err_and c.from_residual-in_err-remake_key.result c.from_residual-in_err-remake_key.ensures.1 in
+    cause_handed read.StoreFault _ _ _ c.remake_key.result _ c.from_residual-in_err-remake_key.result c.in_err-remake_key.was (p.1 ∙ ap (λ x. Err x) p.2) c.loop-key.invariant.unfailed c.remake_key.ensures.cause
+
+pub returns-in_err-remake_key-clause-has : goal.returns-in_err-remake_key-clause-has
+returns-in_err-remake_key-clause-has g c b h = c.remake_key.ensures.has b (has_lends g.S.Store.view c.args.state.now c.loop-key.state b c.loop-key.invariant.lends h)
+
+pub loop-key-init : goal.loop-key-init
+loop-key-init g c = record {
+  lends = lends_none g.S.Store.view c.args.state.now;
+  made = record { olds = []; are = tt; rows = search rules; moves = search rules; stale = search rules };
+  over = λ b h open_. search rules;
+  reads = omega arith;
+  unfailed = refl;
+}
 
 pub returns-in_err-remake_key-clause-reads : goal.returns-in_err-remake_key-clause-reads
 returns-in_err-remake_key-clause-reads g c =

@@ -9,7 +9,7 @@ use Rattle.core_partial.specs.Moving.{IsOver}
 use Rattle.core_partial.specs.Publishing.{closes_by}
 use Rattle.core_partial.proofs.DamageFacts.{held_lent, remade_lent, wrong_lent}
 use Rattle.core_partial.proofs.LendFacts.{lends_then, rests_lends}
-use Rattle.core_partial.proofs.TurnFacts.{Fails, fail_spent, fails_contents, fails_counted, fails_damaged, fails_memory, fails_never, fails_number, fails_only, fails_other, fails_reads, fails_shut, fails_step, fails_store, fails_tells, fails_uses, lent_refusal, reads_then}
+use Rattle.core_partial.proofs.TurnFacts.{Fails, fail_spent, fails_contents, fails_counted, fails_damaged, fails_memory, fails_never, fails_number, fails_only, fails_other, fails_reads, fails_shut, fails_step, fails_store, fails_tells, fails_uses, lent_refusal, reads_none, reads_then}
 use Rattle.core_partial.proofs.publishing.publish_partial.Goals as goal
 
 pub finish-requires-clause-goes : goal.finish-requires-clause-goes
@@ -235,3 +235,9 @@ returns-in-Err-clause-kept g c e =
     let f : Fails view c.args.state.now c.again_of.new.state c.fail.new.state c.args.seq c.in-Err.fault c.fail.result =
     record { lends = c.again_of.ensures.lends; open_ = (goes_on c.args.state.now (sym c.refuses_load.ensures.refused ∙ c.in_default.is)).0; told = c.fail.ensures.reply; left = c.fail.ensures.state } in
     c.fail.ensures.kept (sym (fails_uses view c.args.state.now c.again_of.new.state c.fail.new.state c.args.seq c.in-Err.fault c.fail.result f) ∙ e)
+
+pub returns-in-Some-clause-turn : goal.returns-in-Some-clause-turn
+returns-in-Some-clause-turn g c b h located = c.in-Some.ensures.step b c.args.seq c.args.prepared.now.load h
+
+pub returns-in-Some-clause-reads : goal.returns-in-Some-clause-reads
+returns-in-Some-clause-reads g c = reads_none _ c.args.state.now.segments
