@@ -16,9 +16,6 @@ use Rattle.tablet_state.specs.State.{Has, Rests, SegmentView, Shown, named_files
 use Rattle.tablet_state.proofs.Calming.{has_calm}
 use Rattle.tablet_state.proofs.Lending.{lent_read, lent_then}
 
-abbrev pub err_of : {E : Type 0} (T : Type 0) → E → Result T E
-err_of T fault = Err fault
-
 pub lends_then : {S : Type 0} (view : S → View) (a b c : Shown S) → Lends view a b → Lends view b c → Lends view a c
 lends_then view a b c first second = record {
   calm = calm_then (view a.store) (view b.store) (view c.store) first.calm second.calm;
@@ -62,18 +59,6 @@ has_rests view a new b r h = has_lends view a new b (rests_lends view a new r) h
 pub lends_none : {S : Type 0} (view : S → View) (a : Shown S) → Lends view a a
 lends_none view a = record { calm = calm_none (view a.store); area = refl; end = refl; contents = refl; segments = refl; closed = refl }
 
--- what is told of an error is told of the same error of a call that made it of nothing else
-pub cause_as : {T U E : Type 0} (fault e : E) (before mid now : ℕ) → mid ≡ before → HasCauseOf fault mid now (err_of T e) → HasCauseOf fault before now (err_of U e)
-cause_as {T} {U} {E} fault e before mid now same h = record {
-  well = λ other. h.well (λ x. other (as_err T U e fault x)) ∙ same;
-  failed = λ x. subst (λ (n : ℕ). Counts 1 n now) same (h.failed (as_err U T e fault x));
-}
-  where
-    inside : (X : Type 0) (a b : E) → err_of X a ≡ err_of X b → a ≡ b
-    inside X a b x = cc
-
-    as_err : (X Y : Type 0) (a b : E) → err_of X a ≡ err_of X b → err_of Y a ≡ err_of Y b
-    as_err X Y a b x = ap (err_of Y) (inside X a b x)
 -- ---- a maker's fault that is handed on
 
 err_same : {T : Type 0} (e f : MakeFault) → ◌≡◌ {A = Result T MakeFault} (Err e) (Err f) → e ≡ f
@@ -81,9 +66,9 @@ err_same e f is = cc
 
 pub cause_made : {T U : Type 0} (old mid new : ℕ) (first : Result T MakeFault) (e : MakeFault) (result : Result U MakeFault) → first ≡ Err e → result ≡ Err e → mid ≡ old
     → HasMakeCause mid new first → HasMakeCause old new result
-cause_made {T} {U} old mid new first e result is so same cause = record {
-  well = λ n. cause.well (λ h. n (so ∙ ap (λ (x : MakeFault). Err x) (err_same {T} e make.StoreFault (sym is ∙ h)))) ∙ same;
-  failed = λ h. subst (λ (n : ℕ). Counts 1 n new) same (cause.failed (is ∙ ap (λ (x : MakeFault). Err x) (err_same {U} e make.StoreFault (sym so ∙ h))));
+cause_made {T = T} {U = U} old mid new first e result is so same cause = record {
+  well = λ n. cause.well (λ h. n (so ∙ ap (λ (x : MakeFault). Err x) (err_same {T = T} e make.StoreFault (sym is ∙ h)))) ∙ same;
+  failed = λ h. subst (λ (n : ℕ). Counts 1 n new) same (cause.failed (is ∙ ap (λ (x : MakeFault). Err x) (err_same {T = U} e make.StoreFault (sym so ∙ h))));
 }
 
 handed_same : {T E : Type 0} (e f : E) → ◌≡◌ {A = Result T E} (Err e) (Err f) → e ≡ f
@@ -91,7 +76,7 @@ handed_same e f is = cc
 
 pub cause_handed : {T U E : Type 0} (fault : E) (old mid new : ℕ) (first : Result T E) (e : E) (result : Result U E) → first ≡ Err e → result ≡ Err e → mid ≡ old
     → HasCauseOf fault mid new first → HasCauseOf fault old new result
-cause_handed {T} {U} {E} fault old mid new first e result is so same cause = record {
-  well = λ n. cause.well (λ h. n (so ∙ ap (λ (x : E). Err x) (handed_same {T} {E} e fault (sym is ∙ h)))) ∙ same;
-  failed = λ h. subst (λ (n : ℕ). Counts 1 n new) same (cause.failed (is ∙ ap (λ (x : E). Err x) (handed_same {U} {E} e fault (sym so ∙ h))));
+cause_handed {T = T} {U = U} {E = E} fault old mid new first e result is so same cause = record {
+  well = λ n. cause.well (λ h. n (so ∙ ap (λ (x : E). Err x) (handed_same {T = T} {E = E} e fault (sym is ∙ h)))) ∙ same;
+  failed = λ h. subst (λ (n : ℕ). Counts 1 n new) same (cause.failed (is ∙ ap (λ (x : E). Err x) (handed_same {T = U} {E = E} e fault (sym so ∙ h))));
 }

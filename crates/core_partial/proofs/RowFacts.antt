@@ -36,14 +36,14 @@ astray-damage e P is h = subst (λ (x : ReadFault). OnDamage x P) (sym is) h
 -- the index of a book has live places alone
 pub not-stray : {S : Type 0} (view : S → View) (st : Shown S) (key : List Value) (p : Place) (v : ℕ) (t : Truth) → PlacesAreLive view st → v ≡ current_number st.contents → t ≡ keeps_live st.contents v p → t ≡ false
     → index_of st.contents key ≡ Some p → (b : Book) → Has view st b → st.closed ≡ None → ⊥
-not-stray view st key p v t live current is no at b h open_ =
-    never (sym no ∙ is ∙ ap (λ (n : ℕ). keeps_live st.contents n p) current ∙ live b h open_ key p at)
+not-stray view st key p v t live current is dead at b h open_ =
+    never (sym dead ∙ is ∙ ap (λ (n : ℕ). keeps_live st.contents n p) current ∙ live b h open_ key p at)
 
 -- the row of a key has the key
 pub not-other : {S : Type 0} (view : S → View) (st : Shown S) (s : Layout) (key row : List Value) (t : Truth) → s ≡ st.contents.schema → (IsTrue t ↔ (key_of s row ≡ key)) → t ≡ false
     → (b : Book) → Has view st b → st.closed ≡ None → get b.current key ≡ Some row → ⊥
-not-other view st s key row t same is no b h open_ got =
-    never (sym no ∙ is.1 (subst (λ (x : Layout). key_of x row ≡ key) (sym same) (now_first view st b h open_ key row got)))
+not-other view st s key row t same is other b h open_ got =
+    never (sym other ∙ is.1 (subst (λ (x : Layout). key_of x row ≡ key) (sym same) (now_first view st b h open_ key row got)))
 
 -- a key that the index doesn't have has no row
 pub no-row : {S : Type 0} (view : S → View) (st : Shown S) (key : List Value) → index_of st.contents key ≡ None → (b : Book) → Has view st b → st.closed ≡ None → None ≡ get b.current key
