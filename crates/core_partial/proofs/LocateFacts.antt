@@ -11,6 +11,9 @@ use Rattle.tablet_state.specs.State.{SegmentView}
 use Rattle.tablet_state.proofs.Lending.{get_last}
 use Rattle.core_publish.specs.Opening.{IsOpened, IsOpeningOf, opening_of}
 
+pub some_of : {X : Type 0} (o : Option X) (x : X) (P : X → Type 0) → o ≡ Some x → IfSome o P → P x
+some_of o x P e h = subst (λ q. IfSome q P) e h
+
 -- where it is opened, the state is open, and it is the current version
 pub opened_latest : (closed : Option ℕ) (c : Contents) (r : Reply) (v : ℕ) → IsOpeningOf closed c Latest r → r ≡ reply.Opened v → (closed ≡ None) × (v ≡ current_number c)
 opened_latest closed c r v is e = elim is [
