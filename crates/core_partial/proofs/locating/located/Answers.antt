@@ -15,6 +15,6 @@ loop-key-preserved g c =
     let e : CodeMove = (c.copy.result, c.place_of.result) in
     let key : Folded = c.key-item.result in
     record {
-      codes = codes_step before c.push.new.self.items c.loop-key.key-items c.loop-key.key-index key e c.in_ok-push.ensures.items c.copy.ensures c.loop-key-test.true c.key-item.is inv.codes;
+      codes = codes_step before c.push.new.self.items _ c.loop-key.key-index key e c.in_ok-push.ensures.items c.copy.ensures c.loop-key-test.true c.key-item.is inv.codes;
       stored = subst (AreStored codes) (sym c.in_ok-push.ensures.items) (stored-more codes before e inv.stored (c.place_of.ensures.stored ∙ ap (get codes) (sym c.copy.ensures)));
     }
