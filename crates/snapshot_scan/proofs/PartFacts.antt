@@ -16,7 +16,7 @@ use Rattle.segment_form.specs.Segments.{blocks_of}
 use Rattle.segment_read.specs.Reads.{KnowsFooter, OfBlock, OfFile, OnDamage}
 use Rattle.segment_read.specs.Rows.{IsNoSegment, IsSegmentOf}
 use Rattle.rowsets.specs.Scans.{Piece, alive}
-use Rattle.snapshot_scan.specs.Parts.{PartView, IsPart, IsPieceOf, live_in, read_by}
+use Rattle.snapshot_scan.specs.Parts.{PartView, IsPart, IsPieceOf, block_at, live_in, read_by}
 use Rattle.snapshot_scan.proofs.StreamFacts.{block_is}
 
 abbrev Row : Type 0
@@ -97,6 +97,12 @@ pub live_of_block : (s : Layout) (part : PartView) (b : ℕ) (found live : List 
     → live ≡ alive part.dead (b * 1024) found → (piece : Piece) → IsPieceOf s part piece → live ≡ live_in b piece
 live_of_block s part b found live of_segment are piece is =
     are ∙ ap (λ dead. alive dead (b * 1024) found) is.dead ∙ ap (alive piece.dead (b * 1024)) (block_is b piece.rows found (of_segment is.file is.told piece.rows is.is))
+
+-- all rows of a block that was read
+pub written_of_block : (s : Layout) (part : PartView) (b : ℕ) (found : List Row)
+    → OfFile part.reader (λ file. (rows : List Row) → IsSegmentOf s part.footer file rows → slice_get (blocks_of rows) b ≡ Some found)
+    → (piece : Piece) → IsPieceOf s part piece → found ≡ block_at b piece.rows
+written_of_block s part b found of_segment piece is = block_is b piece.rows found (of_segment is.file is.told piece.rows is.is)
 
 pub live_of_part : (s : Layout) (part : PartView) (found live : List Row)
     → OfFile part.reader (λ file. (rows : List Row) → IsSegmentOf s part.footer file rows → found ≡ rows)

@@ -57,6 +57,14 @@ AreLive s part rows = (piece : Piece) → IsPieceOf s part piece → rows ≡ li
 abbrev pub AreLiveIn : Layout → PartView → ℕ → List (List Value) → Type 0
 AreLiveIn s part b rows = (piece : Piece) → IsPieceOf s part piece → rows ≡ live_in b piece
 
+-- these are all rows of block b of the part's file, the dead ones among them
+abbrev pub AreWrittenIn : Layout → PartView → ℕ → List (List Value) → Type 0
+AreWrittenIn s part b rows = (piece : Piece) → IsPieceOf s part piece → rows ≡ block_at b piece.rows
+
+-- where the reader tells, the bytes of block b are those of these rows
+abbrev pub IsBlockOf : Layout → PartView → ℕ → List (List Value) → Type 0
+IsBlockOf s part b rows = OfFile part.reader (λ file. OfBlock part.footer b (λ mark. AreTheRows s mark (block_in file mark) rows))
+
 -- where the reader tells, the bytes of block b are those of rows
 abbrev pub IsWhole : Layout → PartView → ℕ → Type 0
 IsWhole s part b = OfFile part.reader (λ file. OfBlock part.footer b (λ mark. (rows : List (List Value)) × AreTheRows s mark (block_in file mark) rows))

@@ -5,7 +5,7 @@ ghost use Rattle.segment_read.specs.Rows.{IsRowsDamage};
 ghost use Rattle.rowsets.specs.Scans.{alive};
 ghost use Rattle.rowsets.specs.Scans as scans;
 ghost use Rattle.pk_values.specs.Schemas.{fits_row, Layout};
-ghost use Rattle.snapshot_scan.specs.Parts.{AreLive, AreLiveIn, IsAllWhole, IsPart, IsWhole, read_by, seen, ToldOfNoPiece};
+ghost use Rattle.snapshot_scan.specs.Parts.{AreLive, AreLiveIn, AreWrittenIn, IsAllWhole, IsBlockOf, IsPart, IsWhole, read_by, seen, ToldOfNoPiece};
 ghost use Rattle.snapshot_scan.specs.Scans.{HasLeft, HasLive, IsBlockDamage, IsCursor, ReadOn};
 
 use crate::live::{live_rows, next_live};
@@ -60,6 +60,27 @@ pub fn live_block<R: SealedReader>(
         Ok(rows) => only_live(alloc, rows, b * 1024, &part.1),
         Err(fault) => Err(fault),
     }
+}
+
+/// All rows of a block, the dead ones among them, by one read.
+pub fn written_block<R: SealedReader>(
+    alloc: Global,
+    schema: &Schema,
+    part: &mut (Segment<R>, DelVector),
+    b: u32,
+) -> Result<Vec<Row>, ReadFault>
+    requires part { IsPart schema.now (seen R.view part.old) }
+    requires there { b < length part.old.0.footer.blocks }
+    ensures rows { IfOk result (λ rows. AreWrittenIn schema.now (seen R.view part.old) b rows.items) }
+    ensures bytes { IfOk result (λ rows. IsBlockOf schema.now (seen R.view part.old) b rows.items) }
+    ensures damaged { IfErr result (λ e. OnDamage e (IsBlockDamage schema.now (seen R.view part.old) b)) }
+    ensures intact { IfErr result (ToldOfNoPiece schema.now (seen R.view part.old)) }
+    ensures fit { IfOk result (λ rows. All (λ row. IsTrue (fits_row schema.now row)) rows.items) }
+    ensures reading { Reading 1 (R.view part.old.0.reader) (R.view part.new.0.reader) result }
+    ensures kept { seen R.view part.new ≡ read_by (R.view part.new.0.reader) (seen R.view part.old) }
+    ensures part { IsPart schema.now (seen R.view part.new) }
+{
+    block(alloc, schema, &mut part.0, b)
 }
 
 /// The live rows, by one read for each block.

@@ -1,4 +1,5 @@
-ghost use Rattle.std.specs.Prelude.{◌≡◌, ◌-◌, ◌^◌, ◌<◌, min, map, IfOk, IfErr, IfSome, length, slice_get};
+ghost use Rattle.std.specs.Prelude.{◌≡◌, ◌-◌, ◌^◌, ◌<◌, min, map, All, IfOk, IfErr, IfSome, IsTrue, length, slice_get};
+ghost use Rattle.pk_values.specs.Schemas.{fits_row};
 ghost use Rattle.std.specs.FinMap.{len};
 ghost use Rattle.pk_model.specs.Tables.{Rows};
 ghost use Rattle.dev_traits.specs.Causes.{Counts};
@@ -6,11 +7,11 @@ ghost use Rattle.dev_traits.specs.View.{Calm};
 ghost use Rattle.segment_read.specs.Reads.{OnDamage, Reading};
 ghost use Rattle.segment_read.specs.Rows.{IsRowsDamage};
 ghost use Rattle.rowsets.specs.Scans as scans;
-ghost use Rattle.snapshot_scan.specs.Parts.{AreLive, AreLiveIn, IsAllWhole, IsWhole, seen, ToldOfNoPiece};
+ghost use Rattle.snapshot_scan.specs.Parts.{AreLive, AreLiveIn, AreWrittenIn, IsAllWhole, IsBlockOf, IsWhole, seen, ToldOfNoPiece};
 ghost use Rattle.snapshot_scan.specs.Scans.{HasLeft, HasLive, IsBlockDamage, IsCursor, ReadOn};
 ghost use Rattle.snapshot_scan.specs.Snapshots.{AreParts, fault_count, IsSnapshotOf, live_count, ReadsPart};
 
-use crate::parts::{first_cursor, live_block, live_part, read_on};
+use crate::parts::{first_cursor, live_block, live_part, read_on, written_block};
 use column_page::Footer;
 use del_vector::DelVector;
 use dev_traits::{ReadFault, SealedReader, Store};
@@ -172,6 +173,34 @@ impl<R: SealedReader> Snapshot<R> {
         ensures schema { self.new.schema ≡ self.old.schema }
     {
         live_block(alloc, &self.schema, &mut self.parts[i as usize], b)
+    }
+
+    /// All rows of block `b` of a segment, counted from 0, by one read. The dead rows stand among them.
+    ///
+    /// # Errors
+    /// Those of reading the block.
+    pub fn written_rows(&mut self, alloc: Global, i: u64, b: u32) -> Result<Vec<Row>, ReadFault>
+        requires there { i < length self.old.parts }
+        requires block { IfSome (slice_get self.old.parts i) (λ part. b < length part.footer.blocks) }
+        ensures rows { IfOk result (λ rows. IfSome (slice_get self.old.parts i) (λ part.
+            AreWrittenIn self.old.schema part b rows.items)) }
+
+        // Rows are given of a block alone whose bytes are those of these rows.
+        ensures bytes { IfOk result (λ rows. IfSome (slice_get self.old.parts i) (λ part.
+            IsBlockOf self.old.schema part b rows.items)) }
+        ensures fit { IfOk result (λ rows. All (λ row. IsTrue (fits_row self.old.schema row)) rows.items) }
+        ensures damaged { IfErr result (λ e. IfSome (slice_get self.old.parts i) (λ part.
+            OnDamage e (IsBlockDamage self.old.schema part b))) }
+
+        // No damage is told of the file of a segment.
+        ensures intact { IfErr result (λ e. IfSome (slice_get self.old.parts i) (λ part.
+            ToldOfNoPiece self.old.schema part e)) }
+        ensures reading { ReadsPart i self.old.parts self.new.parts (λ part reader.
+            Reading 1 part.reader reader result) }
+        ensures version { self.new.version ≡ self.old.version }
+        ensures schema { self.new.schema ≡ self.old.schema }
+    {
+        written_block(alloc, &self.schema, &mut self.parts[i as usize], b)
     }
 
     /// The schema of the rows.

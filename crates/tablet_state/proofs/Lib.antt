@@ -27,3 +27,4 @@ pub mod Flooring
 pub mod Raising
 pub mod FloorReplies
 pub mod FloorState
+pub mod MovingFacts

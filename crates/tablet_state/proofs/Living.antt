@@ -163,7 +163,7 @@ place_told (Some q) p h =
       | inr e ↦ absurd (never e)
     ]
 
-key_told : (index : Index) (keys : List (List Value)) (p : Place) → stands_in (places_of index keys) p ≡ true → (k : List Value) × (index k ≡ Some p)
+pub key_told : (index : Index) (keys : List (List Value)) (p : Place) → stands_in (places_of index keys) p ≡ true → (k : List Value) × (index k ≡ Some p)
 key_told index [] p h = absurd (never h)
 key_told index (k ∷ keys) p h =
     elim (or_cases (list_any (same_place p) (option_to_list (index k))) (stands_in (places_of index keys) p) (sym (list_any-append (same_place p) (option_to_list (index k)) (places_of index keys)) ∙ h)) [

@@ -10,3 +10,4 @@ pub mod Opening
 pub mod Adopting
 pub mod Seen
 pub mod Codes
+pub mod Moving

@@ -3,6 +3,7 @@
 
 mod adopting;
 mod changes;
+mod copies;
 mod floor;
 mod hands;
 mod keeping;
@@ -15,6 +16,7 @@ mod state;
 mod turns;
 
 pub use changes::{Change, Ready};
+pub use copies::told_keys;
 pub use floor::ReadyFloor;
 pub use laws::{holding, replying, standing};
 pub use parts::StateParts;

@@ -25,7 +25,7 @@ use snapshot_scan::{Snapshot, give_back_snapshot};
 use std::alloc::Global;
 
 // The place of a file's segment, by a binary search.
-fn place_of<R: SealedReader>(segments: &[Segment<R>], file: u64) -> usize
+pub(crate) fn place_of<R: SealedReader>(segments: &[Segment<R>], file: u64) -> usize
     requires rise { Rises (map (λ g. g.number) (segments_of R.view segments.now)) }
     requires there { IsSome (segment_of (segments_of R.view segments.now) file) }
     ensures { slice_get (segments_of R.view segments.now) result ≡ segment_of (segments_of R.view segments.now) file }

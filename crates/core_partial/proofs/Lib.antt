@@ -1,0 +1,15 @@
+pub mod SubFacts
+pub mod ChangeFacts
+pub mod OverFacts
+pub mod LendFacts
+pub mod FoundFacts
+pub mod RemakeFacts
+pub mod TurnFacts
+pub mod HeldFacts
+pub mod LoopFacts
+pub mod ReadFacts
+pub mod DamageFacts
+pub mod KeyFacts
+pub mod FewFacts
+pub mod OldFacts
+pub mod MakingFacts
