@@ -13,3 +13,4 @@ pub mod KeyFacts
 pub mod FewFacts
 pub mod OldFacts
 pub mod MakingFacts
+pub mod PrepareFacts

@@ -193,6 +193,20 @@ module _ (f : FoundView) (clean : schema_fault f.snapshot.schema.columns f.snaps
         at = place-is i g e there at ∙ both.1;
       }
 
+  -- what is read at the keys' places fits, and is the keys'
+  pub olds-read : (os : Olds) → AreOldsRead f.snapshot fs f.located os → AreOlds s fs os
+  olds-read os are = olds-fit s fs os are.long (λ i g row there got.
+      let entry = entry-at fs f.located i g (as-many f fs located folds) there in
+      let old = are.good i g entry.0 row there entry.1 got in
+      (old.2.fits, old.2.key_is))
+
+  -- where a key has no place, nothing is read
+  pub none-read : (os : Olds) → AreOldsRead f.snapshot fs f.located os → (i : ℕ) (g : Folded) (e : CodeMove) → slice_get fs i ≡ Some g → slice_get f.located i ≡ Some e → e.1 ≡ None
+      → (row : Row) → slice_get os i ≡ Some (Some row) → ⊥
+  none-read os are i g e there at none row got =
+      let old = are.good i g e row there at got in
+      none_some old.0 (sym none ∙ (asked-place g e old.0 old.1).1)
+
   pub reads-found : (g : FoundView) → ReadsAsked fs f.located f.snapshot.parts g.snapshot.parts → ReadsFound f g
   reads-found g reads = record {
     blocks = reads.blocks;

@@ -1,5 +1,5 @@
 -- Which keys of a prepared load moved since they were located, and what is made again of them.
-use Rattle.std.specs.Prelude.{◌≡◌, ◌≢◌, ◌⊎◌, ℕ, ◌/◌, ◌%◌, List, [], ◌∷◌, ◌++◌, map, length, Option, Some, None, Bool as Truth, false, true, option_to_list, slice_get, IfSome, IsTrue}
+use Rattle.std.specs.Prelude.{◌≡◌, ◌≢◌, ◌⊎◌, ℕ, ◌/◌, ◌%◌, List, [], ◌∷◌, ◌++◌, map, length, Option, Some, None, Bool as Truth, false, true, option_to_list, slice_get, cond, IsTrue, ⊤}
 use Rattle.std.specs.FinMap.{get}
 use Rattle.std.specs.List.{filter}
 use Rattle.pk_values.specs.Schemas.{Layout, fits_row, key_of}
@@ -19,6 +19,7 @@ use Rattle.partial_loads.specs.Folds.{overlays}
 use Rattle.partial_loads.specs.Folded.{folded_keys}
 use Rattle.partial_loads.specs.Making.{made_rows}
 use Rattle.partial_loads.specs.Moves.{has_moved}
+use Rattle.partial_loads.specs.Olds.{made_of as rows_made}
 use Rattle.core_publish.specs.Publishing.{index_damage}
 use Rattle.core_partial.specs.Prepared.{AgainView, AreFilesOf, PreparedPartialView, WasLocatedIn, folded_of}
 use Rattle.core_partial.specs.declared.keys.PreparedKey.{PreparedKey}
@@ -41,10 +42,6 @@ pub record IsAgain (s : Layout) (keys : List PreparedKey) (again : AgainView) : 
   pub files : AreFilesOf s (folded_keys (map folded_of keys)) again.rows again.files again.moves
   pub stale_are : again.stale ≡ made_places keys
 
--- of a prepared load, exactly the keys that moved were made again
-abbrev pub IsSettled : Contents → PreparedPartialView → Type 0
-IsSettled c p = IsAgain p.schema (moved_keys c p.version p.keys) p.again
-
 -- the rows of the keys that moved were made again over the rows of this map
 abbrev pub IsAgainOver : Contents → PreparedPartialView → AgainView → Rows → Type 0
 IsAgainOver c p again m = again.rows ≡ made_rows p.schema p.load.given m (map folded_of (moved_keys c p.version p.keys))
@@ -58,51 +55,98 @@ pub record IsOver (c : Contents) (b : Book) (p : PreparedPartialView) (again : A
   pub located : WasLocatedIn b p
   pub remade : IsAgainOver c p again b.current
 
--- ---- damage
+-- ---- the rows that are read
 
 -- the row at a place, where the reader of its segment tells
 abbrev pub AtPlace : Layout → List SegmentView → Place → (List Value → Type 0) → Type 0
 AtPlace s segments p P = (g : SegmentView) → segment_of segments p.segment ≡ Some g → OfFile g.reader (λ file.
     OfBlock g.footer (p.row / 1024) (λ mark. (row : List Value) × IsRowOf s mark (block_in file mark) (p.row % 1024) row × P row))
 
--- it is a row of another key
-abbrev pub HasOtherAt : Layout → List SegmentView → Place → List Value → Type 0
-HasOtherAt s segments p key = AtPlace s segments p (λ row. key_of s row ≢ key)
-
--- the index names for one of these keys a row that isn't a live one of the current version, or one of another key
-pub record IsAstray (c : Contents) (segments : List SegmentView) (keys : List PreparedKey) (d : Damaged) : Type 0 where
-  pub told : d ≡ index_damage
-  pub at : ℕ
-  pub key : PreparedKey
-  pub among : slice_get keys at ≡ Some key
-  pub place : Place
-  pub stored : get c.codes key.code ≡ Some place
-  pub wrong : (keeps_live c (current_number c) place ≡ false) ⊎ HasOtherAt c.schema segments place key.key
-
--- a block of a segment is damaged
-pub record IsOfBlock (s : Layout) (segments : List SegmentView) (d : Damaged) : Type 0 where
-  pub file : ℕ
-  pub segment : SegmentView
-  pub there : segment_of segments file ≡ Some segment
-  pub block : ℕ
-  pub damage : IsDamage file (part.Block block) (λ shown. OfFile segment.reader (λ file.
-      OfBlock segment.footer block (λ mark. BlockShown s mark (block_in file mark) shown))) d
-
--- what reading the rows of keys may tell as damage
-abbrev pub IsReadDamage : Contents → List SegmentView → List PreparedKey → Damaged → Type 0
-IsReadDamage c segments keys d = IsAstray c segments keys d ⊎ IsOfBlock c.schema segments d
-
--- ---- old rows
-
 -- this is the row at a place, where the reader of its segment tells
 abbrev pub IsRowAt : Layout → List SegmentView → Place → List Value → Type 0
 IsRowAt s segments p row = (g : SegmentView) → segment_of segments p.segment ≡ Some g → OfFile g.reader (λ file.
     OfBlock g.footer (p.row / 1024) (λ mark. IsRowOf s mark (block_in file mark) (p.row % 1024) row))
 
--- an old row fits and has this key
-abbrev pub IsOldFor : Layout → List Value → Option (List Value) → Type 0
-IsOldFor s key old = IfSome old (λ row. IsTrue (fits_row s row) × (key_of s row ≡ key))
+-- a row that stands at a live place of the current version, fits and has this key
+pub record IsRowNow (c : Contents) (segments : List SegmentView) (p : Place) (key row : List Value) : Type 0 where
+  pub lives : keeps_live c (current_number c) p ≡ true
+  pub stands : IsRowAt c.schema segments p row
+  pub fits : IsTrue (fits_row c.schema row)
+  pub key_is : key_of c.schema row ≡ key
+
+-- the place of the old row that a key's change asks for, as the index has it
+abbrev pub asked_now : Contents → PreparedKey → Option Place
+asked_now c k = cond (overlays k.change) (get c.codes k.code) None
+
+abbrev pub IsOldAt : Contents → List SegmentView → List Value → Option Place → Option (List Value) → Type 0
+IsOldAt c segments key None old = old ≡ None
+IsOldAt c segments key (Some p) old = (row : List Value) × (old ≡ Some row) × IsRowNow c segments p key row
+
+-- A key's old row now: none where its change doesn't ask for one or the index has no place of it; else the row that stands
+-- at its place.
+abbrev pub IsOldNow : Contents → List SegmentView → PreparedKey → Option (List Value) → Type 0
+IsOldNow c segments k old = IsOldAt c segments k.key (asked_now c k) old
+
+abbrev pub AreOldsNow : Contents → List SegmentView → List PreparedKey → List (Option (List Value)) → Type 0
+AreOldsNow c segments [] [] = ⊤
+AreOldsNow c segments [] (o ∷ os) = ⊥
+AreOldsNow c segments (k ∷ ks) [] = ⊥
+AreOldsNow c segments (k ∷ ks) (o ∷ os) = IsOldNow c segments k o × AreOldsNow c segments ks os
+
+-- over every reader, the rows that were made again are those that the changes of these keys make of their old rows now
+pub record IsMadeOfNow (c : Contents) (segments : List SegmentView) (given : List ℕ) (keys : List PreparedKey)
+    (again : AgainView) : Type 0 where
+  pub olds : List (Option (List Value))
+  pub are : AreOldsNow c segments keys olds
+  pub rows_are : again.rows ≡ rows_made c.schema given (map folded_of keys) olds
+
+-- of a prepared load, exactly the keys that moved were made again, of their old rows now
+pub record IsRemade (c : Contents) (segments : List SegmentView) (p : PreparedPartialView) (again : AgainView) : Type 0 where
+  pub is : IsAgain p.schema (moved_keys c p.version p.keys) again
+  pub read : IsMadeOfNow c segments p.load.given (moved_keys c p.version p.keys) again
+
+abbrev pub IsSettled : Contents → List SegmentView → PreparedPartialView → Type 0
+IsSettled c segments p = IsRemade c segments p p.again
 
 -- where the change asks for the old row, this is that of the map
 abbrev pub IsOldOf : Rows → PreparedKey → Option (List Value) → Type 0
 IsOldOf m k old = overlays k.change ≡ true → old ≡ get m k.key
+
+-- ---- damage
+
+-- it is a row of another key
+abbrev pub HasOtherAt : Layout → List SegmentView → Place → List Value → Type 0
+HasOtherAt s segments p key = AtPlace s segments p (λ row. key_of s row ≢ key)
+
+-- the change of one of these keys asks for the old row, and the index has the key at this place
+pub record AsksAt (c : Contents) (keys : List PreparedKey) (key : PreparedKey) (p : Place) : Type 0 where
+  pub at : ℕ
+  pub among : slice_get keys at ≡ Some key
+  pub asks : overlays key.change ≡ true
+  pub stored : get c.codes key.code ≡ Some p
+
+-- the index names for one of these keys a row that isn't a live one of the current version, or one of another key
+pub record IsAstray (c : Contents) (segments : List SegmentView) (keys : List PreparedKey) (d : Damaged) : Type 0 where
+  pub told : d ≡ index_damage
+  pub key : PreparedKey
+  pub place : Place
+  pub asks : AsksAt c keys key place
+  pub wrong : (keeps_live c (current_number c) place ≡ false) ⊎ HasOtherAt c.schema segments place key.key
+
+-- the block in which a row stands is damaged
+pub record IsBlockOf (s : Layout) (segments : List SegmentView) (p : Place) (d : Damaged) : Type 0 where
+  pub segment : SegmentView
+  pub there : segment_of segments p.segment ≡ Some segment
+  pub damage : IsDamage p.segment (part.Block (p.row / 1024)) (λ shown. OfFile segment.reader (λ file.
+      OfBlock segment.footer (p.row / 1024) (λ mark. BlockShown s mark (block_in file mark) shown))) d
+
+-- the block is damaged in which the old row of one of these keys stands that its change asks for
+pub record IsBroken (c : Contents) (segments : List SegmentView) (keys : List PreparedKey) (d : Damaged) : Type 0 where
+  pub key : PreparedKey
+  pub place : Place
+  pub asks : AsksAt c keys key place
+  pub block : IsBlockOf c.schema segments place d
+
+-- what reading the old rows of keys may tell as damage
+abbrev pub IsReadDamage : Contents → List SegmentView → List PreparedKey → Damaged → Type 0
+IsReadDamage c segments keys d = IsAstray c segments keys d ⊎ IsBroken c segments keys d

@@ -1,6 +1,5 @@
 -- What preparing a partial load reads and makes of what was found, and what it may tell.
-use Rattle.std.specs.Prelude.{◌≡◌, ◌⊎◌, ℕ, List, map, Option, Some, None, All, IsTrue, true, ⊤}
-use Rattle.std.specs.List.{AllByRecursion}
+use Rattle.std.specs.Prelude.{◌≡◌, List, map, Option, Some, None, All, IsTrue, true, ⊤}
 use Rattle.dev_traits.specs.declared.faults.Damaged.{Damaged}
 use Rattle.dev_traits.specs.declared.faults.OutsideFault.{OutsideFault}
 use Rattle.dev_traits.specs.declared.faults.OutsideFault.TheVariants as outside
@@ -8,6 +7,7 @@ use Rattle.key_code.specs.KeyCode.{key_code}
 use Rattle.pk_values.specs.Schemas.{Layout, fits_row}
 use Rattle.pk_values.specs.declared.cells.Value.{Value}
 use Rattle.pk_model.specs.Laws.{KeysStandFirst}
+use Rattle.pk_model.specs.Lawful.{IsLawful}
 use Rattle.pk_model.specs.Tables.{Rows, touches}
 use Rattle.index_level0.specs.declared.place.Place.{Place}
 use Rattle.rowsets.specs.Live.{is_among}
@@ -60,6 +60,7 @@ pub record IsFoundDamage (f : FoundView) (d : Damaged) : Type 0 where
 -- The keys of the load with what their lines come to, the places at which they were located, and where the rows stand
 -- that are made of them; and these rows were made over some map.
 pub record AreFoundKeys (f : FoundView) (made : MadeKeys) : Type 0 where
+  pub lawful : IsLawful f.snapshot.schema f.load
   pub folds : AreFolded f.snapshot.schema f.load.given None f.load.ops (map folded_of made.keys.items)
   pub places : map located_move made.keys.items ≡ f.located
   pub fit : All (λ row. IsTrue (fits_row f.snapshot.schema row)) made.results.rows.items

@@ -1,5 +1,6 @@
 -- What publishing a partial load takes out of it, and what is held then.
-use Rattle.std.specs.Prelude.{◌≡◌, ◌⊎◌, ℕ, ◌+◌, List, [], ◌∷◌, ◌++◌, map, length, true, false, Bool as Truth, ⊤, Option, Some, None, ◌<◌}
+use Rattle.std.specs.Prelude.{◌≡◌, ◌⊎◌, ℕ, ◌+◌, List, [], ◌∷◌, ◌++◌, map, length, true, false, Bool as Truth, ⊤, Option, Some, None, ◌<◌, ◌≤◌}
+use Rattle.std.specs.List.{AllByRecursion}
 use Rattle.dev_traits.specs.declared.faults.Damaged.{Damaged}
 use Rattle.dev_traits.specs.declared.faults.ReadFault.{ReadFault}
 use Rattle.dev_traits.specs.declared.faults.ReadFault.TheVariants as read
@@ -13,10 +14,12 @@ use Rattle.kept_versions.specs.Files.{can_die}
 use Rattle.rowsets.specs.Marks.{stands_in}
 use Rattle.tablet_state.specs.Contents.{Contents}
 use Rattle.tablet_state.specs.Readies.{IsLed, NewSegment, new_files, next_contents}
-use Rattle.tablet_state.specs.State.{SegmentView}
+use Rattle.tablet_state.specs.Moving.{total_reads}
+use Rattle.tablet_state.specs.Snapshots.{SameButReads}
+use Rattle.tablet_state.specs.State.{SegmentView, reads_of}
 use Rattle.core_publish.specs.Publication.{entry_from}
 use Rattle.core_publish.specs.Publishing.{StandsTwice, index_damage, stored_places}
-use Rattle.core_partial.specs.Moving.{IsAgain, IsReadDamage, moved_keys}
+use Rattle.core_partial.specs.Moving.{IsReadDamage, IsRemade, moved_keys}
 use Rattle.core_partial.specs.Prepared.{AgainView, PreparedPartialView, made_move, nothing_again}
 
 abbrev pub place_from : ℕ → Place → Place
@@ -38,28 +41,29 @@ pub record IsTakenOf (c : Contents) (p : PreparedPartialView) (again : AgainView
   pub moved_are : moved ≡ moves_after c.next_file p again
   pub found : HaveSame dead (dead_places c p again)
 
--- What is held next, over every store: the load's files, and files of rows made again of exactly the keys that moved,
--- make the next version; the rows at which the index had its keys die, and the superseded ones; and the index has the
+-- What is held next, over every store: the load's files, and files of rows made again of exactly the keys that moved, of
+-- their old rows now, make the next version; the rows at which the index had its keys die, and the superseded ones; and the index has the
 -- keys' new places.
-pub record IsHeldWith (c : Contents) (p : PreparedPartialView) (next : Contents) : Type 0 where
+pub record IsHeldWith (c : Contents) (segments : List SegmentView) (p : PreparedPartialView) (next : Contents) : Type 0 where
   pub again : AgainView
-  pub is : IsAgain p.schema (moved_keys c p.version p.keys) again
+  pub is : IsRemade c segments p again
   pub current : List ListedRowset
   pub body : List ℕ
   pub next_is : next ≡ next_contents (length (p.files ++ again.files)) current (moves_after c.next_file p again) c
   pub led : IsLed c (new_files c.next_file (p.files ++ again.files)) (dead_places c p again) body next
 
 -- one row is to die twice, or one that is a live one neither of the current version nor of the new files
-pub record IsWrongFor (c : Contents) (p : PreparedPartialView) : Type 0 where
+pub record IsWrongFor (c : Contents) (segments : List SegmentView) (p : PreparedPartialView) : Type 0 where
   pub again : AgainView
-  pub is : IsAgain p.schema (moved_keys c p.version p.keys) again
+  pub is : IsRemade c segments p again
   pub wrong : StandsTwice (dead_places c p again)
       ⊎ ((q : Place) × (stands_in (dead_places c p again) q ≡ true)
       × (can_die (published_rowsets (new_files c.next_file (p.files ++ again.files)) c.current) q ≡ false))
 
 -- what publishing may tell as damage
 abbrev pub IsPublishDamage : Contents → List SegmentView → PreparedPartialView → Damaged → Type 0
-IsPublishDamage c segments p d = IsReadDamage c segments p.keys d ⊎ ((d ≡ index_damage) × IsWrongFor c p)
+IsPublishDamage c segments p d =
+    IsReadDamage c segments (moved_keys c p.version p.keys) d ⊎ ((d ≡ index_damage) × IsWrongFor c segments p)
 
 -- what is left of a prepared load that was used up
 abbrev pub emptied : PreparedPartialView → PreparedPartialView
@@ -89,3 +93,12 @@ IsFinished r = ⊥
 abbrev pub IsBelow : ℕ → Option Place → Type 0
 IsBelow n None = ⊤
 IsBelow n (Some p) = p.segment < n
+
+-- The readers of the segments that there were are read so often at most, all together; those of new files have read nothing.
+pub record ReadsAtMost (count : ℕ) (old new : List SegmentView) : Type 0 where
+  pub read : List SegmentView
+  pub same : SameButReads old read
+  pub most : total_reads read ≤ total_reads old + count
+  pub more : List (ℕ × ℕ)
+  pub new_are : reads_of new ≡ reads_of read ++ more
+  pub unread : AllByRecursion (λ p. p.1 ≡ 0) more

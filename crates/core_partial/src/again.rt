@@ -12,7 +12,7 @@ ghost use Rattle.partial_loads.specs.Folded.{HasCode};
 ghost use Rattle.partial_loads.specs.Making.{made_rows};
 ghost use Rattle.core_publish.specs.Prepared.{AreSealedOf, files_of};
 ghost use Rattle.core_partial.specs.Again.{AreRemade, RemakesMore, RemakesOver};
-ghost use Rattle.core_partial.specs.Moving.{IsAgain, IsAgainOver, IsReadDamage, moved_keys};
+ghost use Rattle.core_partial.specs.Moving.{IsAgainOver, IsReadDamage, IsRemade, moved_keys};
 ghost use Rattle.core_partial.specs.Prepared.{folded_of};
 
 use crate::prepared::Again;
@@ -45,12 +45,13 @@ fn remake_key<S: Store>(
 ) -> Result<(), ReadFault>
     requires schema { schema.now ≡ state.old.contents.schema }
     requires coded { HasCode schema.now (folded_of key.now) }
-    ensures more { OnOk result (RemakesMore schema.now given.now state.old.contents version key.now
+    ensures more { OnOk result (RemakesMore state.old.contents state.old.segments given.now version key.now
         remade.old remade.new) }
     ensures over { OnOk result ((b : Book) → Has S.view state.old b → state.old.closed ≡ None
         → RemakesOver schema.now given.now state.old.contents version key.now b.current remade.old remade.new) }
     ensures damaged { IfErr result (λ e. OnDamage e
-        (IsReadDamage state.old.contents state.old.segments (key.now ∷ []))) }
+        (IsReadDamage state.old.contents state.old.segments
+        (moved_keys state.old.contents version (key.now ∷ [])))) }
     ensures intact { IfErr result (λ e. OnDamage e (λ _. (b : Book) → Has S.view state.old b
         → state.old.closed ≡ None → ⊥)) }
     ensures cause { HasReadCause (faults_of S.view state.old) (faults_of S.view state.new) result }
@@ -83,12 +84,14 @@ fn remake<S: Store>(
 ) -> Result<Remade, ReadFault>
     requires schema { schema.now ≡ state.old.contents.schema }
     requires coded { AllByRecursion (λ k. HasCode schema.now (folded_of k)) keys.now }
-    ensures made { IfOk result (AreRemade schema.now given.now (moved_keys state.old.contents version keys.now)) }
+    ensures made { IfOk result (AreRemade state.old.contents state.old.segments given.now
+        (moved_keys state.old.contents version keys.now)) }
     ensures over { IfOk result (λ remade. (b : Book) → Has S.view state.old b → state.old.closed ≡ None
         → remade.results.rows.items ≡ made_rows schema.now given.now b.current
         (map folded_of (moved_keys state.old.contents version keys.now))) }
     ensures damaged { IfErr result (λ e. OnDamage e
-        (IsReadDamage state.old.contents state.old.segments keys.now)) }
+        (IsReadDamage state.old.contents state.old.segments
+        (moved_keys state.old.contents version keys.now))) }
     ensures intact { IfErr result (λ e. OnDamage e (λ _. (b : Book) → Has S.view state.old b
         → state.old.closed ≡ None → ⊥)) }
     ensures cause { HasReadCause (faults_of S.view state.old) (faults_of S.view state.new) result }
@@ -148,12 +151,12 @@ pub fn again_of<S: Store>(
 ) -> Result<Again<S::Maker>, ReadFault>
     requires unspent { prepared.now.spent ≡ false }
     requires schema { prepared.now.schema ≡ state.old.contents.schema }
-    ensures again { IfOk result (IsAgain prepared.now.schema
-        (moved_keys state.old.contents prepared.now.version prepared.now.keys)) }
+    ensures again { IfOk result (IsRemade state.old.contents state.old.segments prepared.now) }
     ensures over { IfOk result (λ again. (b : Book) → Has S.view state.old b → state.old.closed ≡ None
         → IsAgainOver state.old.contents prepared.now again b.current) }
     ensures damaged { IfErr result (λ e. OnDamage e
-        (IsReadDamage state.old.contents state.old.segments prepared.now.keys)) }
+        (IsReadDamage state.old.contents state.old.segments
+        (moved_keys state.old.contents prepared.now.version prepared.now.keys))) }
     ensures intact { IfErr result (λ e. OnDamage e (λ _. (b : Book) → Has S.view state.old b
         → state.old.closed ≡ None → ⊥)) }
     ensures cause { HasReadCause (faults_of S.view state.old) (faults_of S.view state.new) result }

@@ -40,6 +40,7 @@ fn found_keys<R: SealedReader>(
     ensures load { found.new.load ≡ found.old.load }
     ensures places { found.new.located ≡ found.old.located }
 {
+    let _columns = found.snapshot.schema().columns();
     let keys = fold_lines(alloc, found.snapshot.schema(), given, None, ops)?;
     let olds = read_olds(alloc, &mut found.snapshot, &keys, &found.entries)?;
     let schema = found.snapshot.schema();

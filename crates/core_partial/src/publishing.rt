@@ -12,9 +12,9 @@ ghost use Rattle.tablet_state.specs.Snapshots.{Lends};
 ghost use Rattle.tablet_state.specs.State.{Has, Rests, StandsThroughout, Steps, faults_of, reads_of, refusal_of};
 ghost use Rattle.core_publish.specs.Replies.{TellsShut, shut_after, told_by_reply};
 ghost use Rattle.core_publish.specs.Publishing.{IsPublishing, index_damage, published_in, uses_up};
-ghost use Rattle.core_partial.specs.Moving.{IsAgain, IsOver, moved_keys};
+ghost use Rattle.core_partial.specs.Moving.{IsOver, IsRemade, moved_keys};
 ghost use Rattle.core_partial.specs.Prepared.{WasLocatedIn};
-ghost use Rattle.core_partial.specs.Publishing.{IsFinished, IsHeldWith, IsPublishDamage, IsWrongFor, closes_by, emptied, reply_to};
+ghost use Rattle.core_partial.specs.Publishing.{IsFinished, IsHeldWith, IsPublishDamage, IsWrongFor, ReadsAtMost, closes_by, emptied, reply_to};
 
 use crate::PreparedPartial;
 use crate::again::again_of;
@@ -62,8 +62,7 @@ fn finish<S: Store>(
     requires goes { refusal_of state.old ≡ None }
     requires unspent { prepared.old.spent ≡ false }
     requires schema { prepared.old.schema ≡ state.old.contents.schema }
-    requires again { IsAgain prepared.old.schema
-        (moved_keys state.old.contents prepared.old.version prepared.old.keys) again }
+    requires again { IsRemade state.old.contents state.old.segments prepared.old again }
     ensures turn { (b : Book) → Has S.view state.old b
         → IsOver state.old.contents b prepared.old again
         → Steps S.view state.new b seq (call.Load prepared.old.load) result }
@@ -73,7 +72,7 @@ fn finish<S: Store>(
         (S.view state.new.store) }
     ensures only { IsFinished result }
     ensures damaged { (d : Damaged) → result ≡ reply.Damaged d
-        → (d ≡ index_damage) × IsWrongFor state.old.contents prepared.old }
+        → (d ≡ index_damage) × IsWrongFor state.old.contents state.old.segments prepared.old }
     ensures intact { (b : Book) → Has S.view state.old b
         → IsOver state.old.contents b prepared.old again → (d : Damaged)
         → result ≡ reply.Damaged d → ⊥ }
@@ -83,7 +82,7 @@ fn finish<S: Store>(
     ensures published { (v : ℕ) → result ≡ reply.Published v
         → (v ≡ current_number state.old.contents + 1) × (current_number state.new.contents ≡ v) }
     ensures held { (v : ℕ) → result ≡ reply.Published v
-        → IsHeldWith state.old.contents prepared.old state.new.contents }
+        → IsHeldWith state.old.contents state.old.segments prepared.old state.new.contents }
     ensures same { published_in result ≡ None → state.new.contents ≡ state.old.contents }
     ensures number { (n : ℕ) → result ≡ reply.StoreFault n → n ≡ faults_of S.view state.new }
     ensures counted { faults_of S.view state.new
@@ -170,9 +169,10 @@ pub fn publish_partial<S: Store>(
     ensures published { (v : ℕ) → result ≡ reply.Published v
         → (v ≡ current_number state.old.contents + 1) × (current_number state.new.contents ≡ v) }
 
-    // Over every store, the load's files, and files of rows made again of exactly the keys that moved, make the version.
+    // Over every store, the load's files, and files of rows made again of exactly the keys that moved, of the rows that
+    // stand at their places now, make the version.
     ensures held { (v : ℕ) → result ≡ reply.Published v
-        → IsHeldWith state.old.contents prepared.old state.new.contents }
+        → IsHeldWith state.old.contents state.old.segments prepared.old state.new.contents }
     ensures same { published_in result ≡ None → state.new.contents ≡ state.old.contents }
     ensures number { (n : ℕ) → result ≡ reply.StoreFault n → n ≡ faults_of S.view state.new }
     ensures counted { faults_of S.view state.new
@@ -180,8 +180,8 @@ pub fn publish_partial<S: Store>(
     ensures faults { RoseBy (told_by_reply result) (faults_of S.view state.old) (faults_of S.view state.new) }
 
     // The segment readers are read at most once for each key that moved, all together; those of new files are new.
-    ensures reads { total_reads state.new.segments ≤ total_reads state.old.segments
-        + length (moved_keys state.old.contents prepared.old.version prepared.old.keys) }
+    ensures reads { ReadsAtMost (length (moved_keys state.old.contents prepared.old.version prepared.old.keys))
+        state.old.segments state.new.segments }
 
     // An honest store stays honest, and one that tells still tells, also where it failed.
     ensures honest { (S.view state.new.store).is_honest ≡ (S.view state.old.store).is_honest }

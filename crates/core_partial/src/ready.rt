@@ -8,7 +8,7 @@ ghost use Rattle.tablet_state.specs.Readies.{IsChangeOf, IsMade};
 ghost use Rattle.core_publish.specs.Publication.{entry_from, placed_from};
 ghost use Rattle.std.specs.List.{AllByRecursion};
 ghost use Rattle.core_publish.specs.Publishing.{StandsTwice, is_below, stored_places};
-ghost use Rattle.core_partial.specs.Moving.{IsAgain, IsOver, moved_keys};
+ghost use Rattle.core_partial.specs.Moving.{IsOver, IsRemade};
 ghost use Rattle.core_partial.specs.Prepared.{made_move};
 ghost use Rattle.core_partial.specs.Publishing.{IsBelow, IsTakenOf, IsWrongFor, emptied, moves_after, place_from};
 ghost use Rattle.core_partial.specs.declared.ready.UnreadyFault.TheVariants as fault;
@@ -153,8 +153,7 @@ pub fn ready_of<S: Store>(
     requires goes { refusal_of state.old ≡ None }
     requires unspent { prepared.old.spent ≡ false }
     requires schema { prepared.old.schema ≡ state.old.contents.schema }
-    requires again { IsAgain prepared.old.schema
-        (moved_keys state.old.contents prepared.old.version prepared.old.keys) again }
+    requires again { IsRemade state.old.contents state.old.segments prepared.old again }
     ensures made { IfOk result (λ ready. IsMade (S.view state.new.store) state.new.contents state.new.room
         (map (λ m. (S.Maker.sealed_bytes m.sealed, m.footer)) ready.change.files.items) ready.change.dead.items
         ready.change.index.items ready.body ready.current) }
@@ -169,7 +168,7 @@ pub fn ready_of<S: Store>(
     ensures taken { IfOk result (λ ready. IsTakenOf state.old.contents prepared.old again
         (map (λ m. (S.Maker.sealed_bytes m.sealed, m.footer)) ready.change.files.items) ready.change.dead.items
         ready.change.index.items) }
-    ensures wrong { IsErrOf result fault.Index → IsWrongFor state.old.contents prepared.old }
+    ensures wrong { IsErrOf result fault.Index → IsWrongFor state.old.contents state.old.segments prepared.old }
     ensures intact { (b : Book) → Has S.view state.old b
         → IsOver state.old.contents b prepared.old again → IfErr result (λ e. e ≡ fault.Memory) }
     ensures rests { Rests S.view state.old state.new }

@@ -14,7 +14,7 @@ ghost use Rattle.partial_loads.specs.Folds.{overlays};
 ghost use Rattle.partial_loads.specs.Moves.{has_moved};
 ghost use Rattle.core_publish.specs.Publishing.{index_damage};
 ghost use Rattle.core_partial.specs.Prepared.{folded_of};
-ghost use Rattle.core_partial.specs.Moving.{IsOfBlock, IsOldFor, IsOldOf, IsReadDamage, IsRowAt};
+ghost use Rattle.core_partial.specs.Moving.{IsBlockOf, IsOldNow, IsOldOf, IsReadDamage, IsRowAt, IsRowNow};
 
 use crate::PreparedKey;
 use dev_traits::{Damaged, Part, ReadFault, SealedReader, Shown, Store};
@@ -76,7 +76,7 @@ fn read_row<S: Store>(
     ensures read { IfOk result (λ row. IsRowAt schema.now state.old.segments place.now row) }
     ensures row { IfOk result (λ row. (b : Book) (k : List Value) → Has S.view state.old b → state.old.closed ≡ None
         → index_of state.old.contents k ≡ Some place.now → get b.current k ≡ Some row) }
-    ensures damaged { IfErr result (λ e. OnDamage e (IsOfBlock schema.now state.old.segments)) }
+    ensures damaged { IfErr result (λ e. OnDamage e (IsBlockOf schema.now state.old.segments place.now)) }
     ensures intact { IfErr result (λ e. OnDamage e (λ _. (b : Book) (k : List Value) → Has S.view state.old b
         → state.old.closed ≡ None → index_of state.old.contents k ≡ Some place.now → ⊥)) }
     ensures cause { HasReadCause (faults_of S.view state.old) (faults_of S.view state.new) result }
@@ -101,7 +101,8 @@ fn row_of<S: Store>(
     requires schema { schema.now ≡ state.old.contents.schema }
     requires coded { HasCode schema.now (folded_of key.now) }
     requires stored { get state.old.contents.codes key.now.code ≡ Some place.now }
-    ensures old { IfOk result (λ row. IsTrue (fits_row schema.now row) × (key_of schema.now row ≡ key.now.key)) }
+    requires asks { overlays key.now.change ≡ true }
+    ensures now { IfOk result (IsRowNow state.old.contents state.old.segments place.now key.now.key) }
     ensures row { IfOk result (λ row. (b : Book) → Has S.view state.old b → state.old.closed ≡ None
         → get b.current key.now.key ≡ Some row) }
     ensures damaged { IfErr result (λ e. OnDamage e
@@ -141,7 +142,7 @@ pub fn old_row<S: Store>(
     requires schema { schema.now ≡ state.old.contents.schema }
     requires coded { HasCode schema.now (folded_of key.now) }
     requires stored { get state.old.contents.codes key.now.code ≡ now.now }
-    ensures old { IfOk result (IsOldFor schema.now key.now.key) }
+    ensures now { IfOk result (IsOldNow state.old.contents state.old.segments key.now) }
     ensures row { IfOk result (λ old. (b : Book) → Has S.view state.old b → state.old.closed ≡ None
         → IsOldOf b.current key.now old) }
     ensures damaged { IfErr result (λ e. OnDamage e

@@ -32,8 +32,9 @@ pub fn settle<S: Store>(
     ensures count { IfOk result (λ moved.
         moved ≡ length (moved_keys state.old.contents prepared.old.version prepared.old.keys)) }
 
-    // Rows were made again of exactly the keys that moved, over the rows of the book that the state has.
-    ensures settled { OnOk result (IsSettled state.old.contents prepared.new) }
+    // Rows were made again of exactly the keys that moved, over every reader of the rows that stand at their places now, and
+    // these are the rows of the book that the state has.
+    ensures settled { OnOk result (IsSettled state.old.contents state.old.segments prepared.new) }
     ensures over { OnOk result ((b : Book) → Has S.view state.old b
         → IsSettledOver state.old.contents prepared.new b.current) }
 
@@ -45,7 +46,8 @@ pub fn settle<S: Store>(
     ensures reads { total_reads state.new.segments ≤ total_reads state.old.segments
         + length (moved_keys state.old.contents prepared.old.version prepared.old.keys) }
     ensures damaged { IfErr result (λ e. OnDamage e
-        (IsReadDamage state.old.contents state.old.segments prepared.old.keys)) }
+        (IsReadDamage state.old.contents state.old.segments
+        (moved_keys state.old.contents prepared.old.version prepared.old.keys))) }
     ensures intact { (b : Book) → Has S.view state.old b → IfErr result (λ e. OnDamage e (λ _. ⊥)) }
     ensures cause { HasReadCause (faults_of S.view state.old) (faults_of S.view state.new) result }
 

@@ -8,3 +8,5 @@ pub mod FillingFacts
 pub mod PartFacts
 pub mod TakeFacts
 pub mod ReadingFacts
+pub mod OneFacts
+pub mod RunsFacts

@@ -148,10 +148,10 @@ same-read v w i part reader version schema there now same = record {
 one_more : (cap r s f g : ℕ) → s ≡ r + min 1 (cap - r) → g + r ≡ f + s → r ≤ f → (more : ℕ) → min (more + g) cap ≡ min (more + f) cap + min 1 (cap - min (more + f) cap)
 one_more cap r s f g counts sums least more = omega (arith, counts, sums, least)
 
-ok_err : {T : Type 0} {x : T} → Path (Result T ReadFault) (Ok x) (Err read.StoreFault) → ⊥
+pub ok_err : {T : Type 0} {x : T} → Path (Result T ReadFault) (Ok x) (Err read.StoreFault) → ⊥
 ok_err e = cc
 
-err_same : {T : Type 0} (a b : ReadFault) → Path (Result T ReadFault) (Err a) (Err b) → a ≡ b
+pub err_same : {T : Type 0} (a b : ReadFault) → Path (Result T ReadFault) (Err a) (Err b) → a ≡ b
 err_same a b e = cc
 
 pub counted-once : {T : Type 0} (old : List PartView) (i : ℕ) (part : PartView) (reader : ReaderView) (result : Result T ReadFault) → slice_get old i ≡ Some part
