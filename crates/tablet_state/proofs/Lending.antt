@@ -201,7 +201,7 @@ head_below x [] j h rise at = absurd (none_some h at)
 head_below x (y ∷ gs) zero h rise at = let lt : x.number < y.number = rise.0 in let same = ap (λ (g : SegmentView). g.number) (some_one y h at) in omega arith
 head_below x (y ∷ gs) (suc j) h rise at = let lt : x.number < y.number = rise.0 in let more = head_below y gs j h rise.1 at in omega arith
 
-tail_rises : (x : SegmentView) (gs : List SegmentView) → Rises (map (λ (g : SegmentView). g.number) (x ∷ gs)) → Rises (map (λ (g : SegmentView). g.number) gs)
+pub tail_rises : (x : SegmentView) (gs : List SegmentView) → Rises (map (λ (g : SegmentView). g.number) (x ∷ gs)) → Rises (map (λ (g : SegmentView). g.number) gs)
 tail_rises x [] rise = tt
 tail_rises x (y ∷ gs) rise = rise.1
 

@@ -1,8 +1,8 @@
 -- Places of earlier versions that are still live there, and copies of segments.
-use Rattle.std.proofs.Common.{◌≡◌, refl, ap, sym, subst, ◌∙◌, ℕ, zero, suc, ◌+◌, ◌-◌, ◌<◌, ◌≤◌, List, [], ◌∷◌, ◌++◌, length, length-append, map, slice_get, slice_set, Option, Some, None, Bool, true, false, ◌&&◌, ◌==◌, nat_lt, nat_le, not, cond, if◌then◌else◌, IfSome, arith}
+use Rattle.std.proofs.Common.{◌≡◌, refl, ap, sym, subst, ◌∙◌, ℕ, zero, suc, ◌+◌, ◌-◌, ◌^◌, ◌<◌, ◌≤◌, min, List, [], ◌∷◌, ◌++◌, length, length-append, map, slice_get, slice_set, Option, Some, None, Bool, true, false, ◌&&◌, ◌==◌, nat_lt, nat_le, not, cond, if◌then◌else◌, IfSome, IsSome, arith}
 use Rattle.std.specs.List.{AllByRecursion, list_any}
 use Rattle.std.specs.FinMap.{get}
-use Rattle.std.proofs.lemmas.Bool.{and_parts, and_from, ltb-true, ltb-false, lt-ltb, leb-true, leb-false, eqb-true}
+use Rattle.std.proofs.lemmas.Bool.{and_parts, and_from, ltb-true, ltb-false, lt-ltb, leb-true, leb-false, eqb-true, eq-eqb, ne_eqb}
 use Rattle.std.proofs.lemmas.Option.{slice_get_within}
 use Rattle.column_page.specs.declared.footers.Footer.{Footer}
 use Rattle.pk_values.specs.Schemas.{Layout, key_of}
@@ -17,6 +17,7 @@ use Rattle.segment_read.specs.Footers.{HasFooter}
 use Rattle.segment_read.specs.Reads.{KnowsFooter}
 use Rattle.index_level0.specs.declared.place.Place.{Place}
 use Rattle.rowsets.specs.Live.{Part, Version as Rowsets, Files, HasKey, StandsFor, is_dead, live, parts_of}
+use Rattle.rowsets.specs.Marks.{Rises}
 use Rattle.rowsets.specs.Books.{Held, held_at}
 use Rattle.rowsets.proofs.BookFacts.{kept_are_held}
 use Rattle.journal_form.specs.declared.records.ListedFile.{ListedFile}
@@ -26,13 +27,13 @@ use Rattle.journal_form.specs.Meaning.{Entry}
 use Rattle.kept_versions.specs.Files.{is_live, row_lives}
 use Rattle.tablet_state.specs.Contents.{Contents, all_rowsets, begun_of, current_number, index_of, standing_of, version_of, versions_of}
 use Rattle.tablet_state.specs.Holding.{Holds, held}
-use Rattle.tablet_state.specs.Moving.{HasAt, HasRowOf, IsCopyOf, KeysAreTold, PlacesAreLive, TellsKey, keeps_live, lives_in, total_reads}
+use Rattle.tablet_state.specs.Moving.{HasAt, HasRowOf, IsCopyOf, KeysAreTold, PlacesAreLive, TellsKey, keeps_live, lives_in, read_more, read_once, total_reads}
 use Rattle.tablet_state.specs.Snapshots.{IsKept, rowsets_at}
 use Rattle.tablet_state.specs.Stands.{IsSegment, part_of, rowsets_of, told_file}
 use Rattle.tablet_state.specs.State.{Has, HasBook, HasOwn, IsAttached, IsReadAs, SegmentView, Shown, segment_of}
 use Rattle.tablet_state.proofs.FileFacts.{all-map}
 use Rattle.tablet_state.proofs.KeptFacts.{HonestReads, IsHeldFile, kept_there, version_held}
-use Rattle.tablet_state.proofs.Lending.{found_there, get_last, none_some, some_one}
+use Rattle.tablet_state.proofs.Lending.{found_there, get_last, none_some, rises_at, some_one, tail_rises}
 use Rattle.tablet_state.proofs.RowFacts.{files_of_last}
 use Rattle.tablet_state.proofs.VersionFacts.{parts, parts_are}
 
@@ -243,6 +244,33 @@ pub total_set : (gs : List SegmentView) (i : ℕ) (old new : SegmentView) → sl
 total_set [] i old new at le = absurd (none_some old at)
 total_set (g ∷ gs) zero old new at le = let same = ap (λ (x : SegmentView). x.reader.reads) (some_one g old at) in omega arith
 total_set (g ∷ gs) (suc i) old new at le = let more = total_set gs i old new at le in omega arith
+
+pub told_of : {X : Type 0} (o : Option X) (x : X) → IsSome o → ((y : X) → o ≡ Some y → y ≡ x) → o ≡ Some x
+told_of None x some is = absurd (cc some)
+told_of (Some y) x some is = ap Some (is y refl)
+
+pub set_same : (gs : List SegmentView) (i : ℕ) (old new : SegmentView) → slice_get gs i ≡ Some old → new ≡ old → slice_set gs i new ≡ gs
+set_same [] i old new at same = absurd (none_some old at)
+set_same (g ∷ gs) zero old new at same = ap (λ (h : SegmentView). h ∷ gs) (same ∙ sym (some_one g old at))
+set_same (g ∷ gs) (suc i) old new at same = ap (λ (hs : List SegmentView). g ∷ hs) (set_same gs i old new at same)
+
+pub read_set : (gs : List SegmentView) (i file : ℕ) (old new : SegmentView) → Rises (map (λ (g : SegmentView). g.number) gs) → slice_get gs i ≡ Some old → old.number ≡ file → new ≡ read_more old → slice_set gs i new ≡ read_once file gs
+read_set [] i file old new rise at is more = absurd (none_some old at)
+read_set (g ∷ gs) zero file old new rise at is more =
+    let same = some_one g old at in
+    ap (λ (h : SegmentView). h ∷ gs) (more ∙ ap read_more (sym same))
+    ∙ ap (λ (t : Bool). if t then read_more g ∷ gs else g ∷ read_once file gs) (sym (eq-eqb g.number file (ap (λ (h : SegmentView). h.number) same ∙ is)))
+read_set (g ∷ gs) (suc i) file old new rise at is more =
+    let below = rises_at (g ∷ gs) zero (suc i) g old rise refl at (omega arith) in
+    ap (λ (hs : List SegmentView). g ∷ hs) (read_set gs i file old new (tail_rises g gs rise) at is more)
+    ∙ ap (λ (t : Bool). if t then read_more g ∷ gs else g ∷ read_once file gs) (sym (ne_eqb g.number file (λ e. omega arith)))
+
+pub seen_same : (g h : SegmentView) → h.number ≡ g.number → h.footer ≡ g.footer → SameFile g.reader h.reader → h.reader.faults ≡ g.reader.faults → h.reader.reads ≡ g.reader.reads → h ≡ g
+seen_same g h number footer same faults reads =
+    λ i. record { number = number i; reader = record { bytes = same.bytes i; size = same.size i; faults = faults i; reads = reads i }; footer = footer i }
+
+pub seen_read : (g h : SegmentView) → h.number ≡ g.number → h.footer ≡ g.footer → SameFile g.reader h.reader → h.reader.faults ≡ g.reader.faults → h.reader.reads ≡ min (g.reader.reads + 1) (2 ^ 64 - 1) → h ≡ read_more g
+seen_read g h number footer same faults reads = seen_same (read_more g) h number footer (record { bytes = same.bytes; size = same.size }) faults reads
 
 pub copied : (gs : List SegmentView) (file place : ℕ) (x copy : SegmentView) → slice_get gs place ≡ Some x → slice_get gs place ≡ segment_of gs file → copy.number ≡ x.number → copy.footer ≡ x.footer
     → SameFile x.reader copy.reader → IsNew copy.reader → IsCopyOf gs file copy

@@ -1,5 +1,5 @@
 -- Which places of an earlier version are still live there, and what the keys that stand at them still have.
-use Rattle.std.specs.Prelude.{◌≡◌, ◌<◌, ℕ, ◌+◌, List, [], ◌∷◌, Option, Some, None, Bool as Truth, true, false, cond, nat_le, slice_get}
+use Rattle.std.specs.Prelude.{◌≡◌, ◌<◌, ℕ, ◌+◌, ◌-◌, ◌^◌, ◌==◌, min, List, [], ◌∷◌, Option, Some, None, Bool as Truth, true, false, cond, if◌then◌else◌, nat_le, slice_get}
 use Rattle.std.specs.FinMap.{get}
 use Rattle.pk_values.specs.Schemas.{Layout}
 use Rattle.pk_values.specs.declared.cells.Value.{Value}
@@ -49,6 +49,15 @@ pub record HasAt (s : Layout) (g : SegmentView) (row : ℕ) (there : Option (Lis
   pub rows : List (List Value)
   pub is : IsSegmentOf s g.footer file rows
   pub at : slice_get rows row ≡ there
+
+-- the segment with one read more, as far as a u64 goes
+abbrev pub read_more : SegmentView → SegmentView
+read_more g = record g { reader = record g.reader { reads = min (g.reader.reads + 1) (2 ^ 64 - 1) } }
+
+-- the segments, where the reader of a file's was read once more
+abbrev pub read_once : ℕ → List SegmentView → List SegmentView
+read_once file [] = []
+read_once file (g ∷ gs) = if g.number == file then read_more g ∷ gs else g ∷ read_once file gs
 
 -- how often the readers of segments were read, all together
 abbrev pub total_reads : List SegmentView → ℕ

@@ -1,4 +1,4 @@
-ghost use Rattle.std.specs.Prelude.{◌≡◌, ◌+◌, ◌≤◌, Some, true, map, IfOk, IsSome};
+ghost use Rattle.std.specs.Prelude.{◌≡◌, ◌+◌, ◌≤◌, Some, true, map, IfOk, IsSome, OnErr, OnOk};
 ghost use Rattle.rowsets.specs.Marks.{Rises};
 ghost use Rattle.pk_model.specs.declared.books.Book.{Book};
 ghost use Rattle.pk_values.specs.declared.cells.Value.{Value};
@@ -9,7 +9,7 @@ ghost use Rattle.std.specs.FinMap.{get};
 ghost use Rattle.index_level0.specs.declared.place.Place.{Place as Spot};
 ghost use Rattle.segment_read.specs.Reads.{KnowsFooter};
 ghost use Rattle.tablet_state.specs.Contents.{index_of};
-ghost use Rattle.tablet_state.specs.Moving.{HasAt, HasRowOf, IsCopyOf, KeysAreTold, PlacesAreLive, keeps_live, total_reads};
+ghost use Rattle.tablet_state.specs.Moving.{HasAt, HasRowOf, IsCopyOf, KeysAreTold, PlacesAreLive, keeps_live, read_once, total_reads};
 ghost use Rattle.tablet_state.specs.Seen.{segment_seen, segments_of};
 ghost use Rattle.tablet_state.specs.Snapshots.{Lends, SameButReads};
 ghost use Rattle.tablet_state.specs.State.{Has, Rests, faults_of, segment_of};
@@ -38,6 +38,10 @@ fn copy_of<R: SealedReader>(
     requires rise { Rises (map (λ g. g.number) (segments_of R.view segments.old.items)) }
     requires there { IsSome (segment_of (segments_of R.view segments.old.items) file) }
     ensures copy { IfOk result (λ copy. IsCopyOf (segments_of R.view segments.old.items) file (segment_seen R.view copy)) }
+    ensures counted { OnOk result (segments_of R.view segments.new.items
+        ≡ read_once file (segments_of R.view segments.old.items)) }
+    ensures uncounted { OnErr result (segments_of R.view segments.new.items
+        ≡ segments_of R.view segments.old.items) }
     ensures same { SameButReads (segments_of R.view segments.old.items) (segments_of R.view segments.new.items) }
     ensures reads { total_reads (segments_of R.view segments.new.items)
         ≤ total_reads (segments_of R.view segments.old.items) + 1 }
@@ -78,6 +82,10 @@ impl<S: Store> State<S> {
         ensures rows { IfOk result (λ copy. (b : Book) (k : List Value) (p : Spot) → Has S.view self.old b
             → self.old.closed ≡ None → index_of self.old.contents k ≡ Some p → p.segment ≡ file
             → HasAt self.old.contents.schema (segment_seen S.Reader.view copy) p.row (get b.current k)) }
+
+        // No other reader is asked, and none where memory is wanted.
+        ensures counted { OnOk result (self.new.segments ≡ read_once file self.old.segments) }
+        ensures uncounted { OnErr result (self.new.segments ≡ self.old.segments) }
         ensures reads { total_reads self.new.segments ≤ total_reads self.old.segments + 1 }
         ensures lends { Lends S.view self.old self.new }
         ensures faults { faults_of S.view self.new ≡ faults_of S.view self.old }
@@ -86,15 +94,25 @@ impl<S: Store> State<S> {
         copy_of(alloc, &mut self.segments, file)
     }
 
-    /// Seals rows in a file, with the state's own maker.
+    /// Seals rows in a file of their own, in their order, with the state's own maker. Whatever that maker had begun
+    /// before is dropped. Nothing else of the state changes.
     ///
     /// # Errors
-    /// `StoreFault` exactly where the maker failed, which it counted once; `Memory`.
+    /// `StoreFault` exactly where the maker failed, which it counted once; `Memory` where it or this call wants memory,
+    /// and then nothing is counted.
     pub fn write_rows(&mut self, alloc: Global, rows: &[Row]) -> Result<Made<S::Maker>, MakeFault>
         requires { AreSegmentRows self.old.contents.schema rows.now }
         ensures footer { IfOk result (λ made. made.footer ≡ footer_of self.old.contents.schema rows.now) }
         ensures sealed { IfOk result (λ made. (bytes : List ℕ) → S.Maker.sealed_bytes made.sealed ≡ Some bytes
             → bytes ≡ segment_file self.old.contents.schema rows.now) }
+
+        // Where the store tells, the file tells just the bytes of these rows.
+        ensures told { IfOk result (λ made. IsSome (S.view self.old.store).seen → S.Maker.sealed_bytes made.sealed
+            ≡ Some (segment_file self.old.contents.schema rows.now)) }
+
+        // The fault is the maker's, and the state is as it was but for the maker's count.
+        ensures maker { HasMakeCause self.old.maker_faults self.new.maker_faults result }
+        ensures alone { self.new ≡ record self.old { maker_faults = self.new.maker_faults } }
         ensures cause { HasMakeCause (faults_of S.view self.old) (faults_of S.view self.new) result }
         ensures rests { Rests S.view self.old self.new }
         ensures has { (b : Book) → Has S.view self.old b → Has S.view self.new b }

@@ -1,8 +1,8 @@
-use Rattle.std.proofs.Common.{◌≡◌, ◌∙◌, ◌+◌, ◌-◌, ◌^◌, ◌≤◌, min, List, IsSome, ap, refl, subst, sym}
+use Rattle.std.proofs.Common.{◌≡◌, ◌∙◌, ◌+◌, ◌-◌, ◌^◌, ◌≤◌, min, List, IsSome, OnErr, OnOk, ap, refl, subst, sym}
 use Rattle.std.specs.List.{AllByRecursion}
 use Rattle.std.proofs.lemmas.Result.{IfOk-weaker}
 use Rattle.dev_traits.proofs.Moments.{calm_none}
-use Rattle.tablet_state.specs.Moving.{IsCopyOf, total_reads}
+use Rattle.tablet_state.specs.Moving.{IsCopyOf, read_once, total_reads}
 use Rattle.tablet_state.specs.Seen.{segment_seen, segments_of}
 use Rattle.tablet_state.specs.State.{HasOwn, SegmentView, Shown, faults_of, reader_faults, segment_of}
 use Rattle.tablet_state.proofs.Calming.{HasStill, has_calm}
@@ -46,6 +46,18 @@ returns-clause-reads g c =
     let read = g.S.Reader.SealedReader.view in
     let new : List SegmentView = segments_of read c.copy_of.new.segments.items in
     subst (λ (x : Shown g.row.S.Denot). total_reads new ≤ total_reads x.segments + 1) c.self.view_is c.copy_of.ensures.reads
+
+pub returns-clause-counted : goal.returns-clause-counted
+returns-clause-counted g c =
+    let read = g.S.Reader.SealedReader.view in
+    let new : List SegmentView = segments_of read c.copy_of.new.segments.items in
+    subst (λ (x : Shown g.row.S.Denot). OnOk c.copy_of.result (new ≡ read_once c.args.file x.segments)) c.self.view_is c.copy_of.ensures.counted
+
+pub returns-clause-uncounted : goal.returns-clause-uncounted
+returns-clause-uncounted g c =
+    let read = g.S.Reader.SealedReader.view in
+    let new : List SegmentView = segments_of read c.copy_of.new.segments.items in
+    subst (λ (x : Shown g.row.S.Denot). OnErr c.copy_of.result (new ≡ x.segments)) c.self.view_is c.copy_of.ensures.uncounted
 
 pub returns-clause-lends : goal.returns-clause-lends
 returns-clause-lends g c =
