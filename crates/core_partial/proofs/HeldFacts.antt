@@ -5,15 +5,16 @@ use Rattle.journal_form.specs.declared.records.Record.TheVariants.{Publish}
 use Rattle.journal_form.specs.Versions.{Rowset as ListedRowset}
 use Rattle.rowsets.specs.Indexing.{CodeMove}
 use Rattle.tablet_state.specs.Contents.{Contents}
+use Rattle.tablet_state.specs.State.{SegmentView}
 use Rattle.tablet_state.specs.Readies.{IsLed, Leads, NewSegment, new_files, next_contents}
-use Rattle.core_partial.specs.Moving.{IsAgain, moved_keys}
+use Rattle.core_partial.specs.Moving.{IsRemade}
 use Rattle.core_partial.specs.Prepared.{AgainView, PreparedPartialView}
 use Rattle.core_partial.specs.Publishing.{IsHeldWith, IsTakenOf}
 
-pub held_with : (c : Contents) (p : PreparedPartialView) (again : AgainView) (made : List NewSegment) (moved : List CodeMove) (dead : List Place) (body : List ℕ) (current : List ListedRowset) (count : ℕ) (next : Contents)
-    → IsAgain p.schema (moved_keys c p.version p.keys) again → IsTakenOf c p again made dead moved → IsLed c (new_files c.next_file made) dead body (next_contents (length made) current moved c) → count ≡ length made
-    → next ≡ next_contents count current moved c → IsHeldWith c p next
-held_with c p again made moved dead body current count next is t led many at =
+pub held_with : (c : Contents) (segs : List SegmentView) (p : PreparedPartialView) (again : AgainView) (made : List NewSegment) (moved : List CodeMove) (dead : List Place) (body : List ℕ) (current : List ListedRowset) (count : ℕ) (next : Contents)
+    → IsRemade c segs p again → IsTakenOf c p again made dead moved → IsLed c (new_files c.next_file made) dead body (next_contents (length made) current moved c) → count ≡ length made
+    → next ≡ next_contents count current moved c → IsHeldWith c segs p next
+held_with c segs p again made moved dead body current count next is t led many at =
     let made_next : next_contents (length made) current moved c ≡ next = ap (λ (n : ℕ). next_contents n current moved c) (sym many) ∙ sym at in
     let as_files : count ≡ length (p.files ++ again.files) = many ∙ ap length t.files_are in
     record {

@@ -7,13 +7,14 @@ use Rattle.pk_values.specs.Schemas.{Layout}
 use Rattle.pk_values.specs.declared.cells.Value.{Value}
 use Rattle.pk_model.specs.Tables.{Rows}
 use Rattle.tablet_state.specs.Contents.{Contents}
+use Rattle.tablet_state.specs.State.{SegmentView}
 use Rattle.partial_loads.specs.Folds.{apply, overlays}
 use Rattle.partial_loads.specs.Making.{made_rows}
 use Rattle.partial_loads.proofs.FoldFacts.{old_row_unasked}
 use Rattle.core_partial.specs.Again.{Remakes, RemakesKey, RemakesMore, RemakesOver, row_made}
 use Rattle.rowsets.specs.Indexing.{Move, code_moves}
 use Rattle.core_publish.specs.Prepared.{files_of, place_in}
-use Rattle.core_partial.specs.Moving.{IsAgain, IsOldOf, IsSettled, IsSettledOver, is_moved_key, moved_keys}
+use Rattle.core_partial.specs.Moving.{IsAgain, IsOldOf, IsRemade, IsSettled, IsSettledOver, is_moved_key, moved_keys}
 use Rattle.core_partial.specs.Prepared.{AgainView, PreparedPartialView, folded_of}
 use Rattle.core_partial.proofs.SubFacts.{keys_in}
 use Rattle.core_partial.specs.declared.again.Remade.{Remade}
@@ -44,11 +45,12 @@ pub unmoved-over : (s : Layout) (given : List ℕ) (c : Contents) (v : ℕ) (k :
 unmoved-over s given c v k m before e =
     sym (append-nil before.results.rows.items) ∙ ap (λ (ks : List PreparedKey). before.results.rows.items ++ made_rows s given m (map folded_of ks)) (sym (unmoved-none c v k e))
 
-pub remakes-moved : (s : Layout) (given : List ℕ) (c : Contents) (v : ℕ) (k : PreparedKey) (before after : Remade) → is_moved_key c v k ≡ true → RemakesKey s given k before after → RemakesMore s given c v k before after
-remakes-moved s given c v k before after e h = subst (λ (t : Truth). Remakes t s given k before after) (sym e) h
+pub remakes-moved : (c : Contents) (segs : List SegmentView) (given : List ℕ) (v : ℕ) (k : PreparedKey) (before after : Remade) → is_moved_key c v k ≡ true → RemakesKey c segs given k before after
+    → RemakesMore c segs given v k before after
+remakes-moved c segs given v k before after e h = subst (λ (t : Truth). Remakes t c segs given k before after) (sym e) h
 
-pub remakes-none : (s : Layout) (given : List ℕ) (c : Contents) (v : ℕ) (k : PreparedKey) (before : Remade) → is_moved_key c v k ≡ false → RemakesMore s given c v k before before
-remakes-none s given c v k before e = subst (λ (t : Truth). Remakes t s given k before before) (sym e) refl
+pub remakes-none : (c : Contents) (segs : List SegmentView) (given : List ℕ) (v : ℕ) (k : PreparedKey) (before : Remade) → is_moved_key c v k ≡ false → RemakesMore c segs given v k before before
+remakes-none c segs given v k before e = subst (λ (t : Truth). Remakes t c segs given k before before) (sym e) refl
 
 -- there are as many moves as keys
 long-moves : (code : List Value → List ℕ) (f : List Value → Option Place) (ks : List PreparedKey)
@@ -60,8 +62,8 @@ pub count-of : (s : Layout) (ks : List PreparedKey) (again : AgainView) → IsAg
 count-of s ks again is = ap length is.files.moves_are ∙ long-moves (key_code s) (place_in s 0 (files_of again.rows)) ks
 
 -- what was made again was put in the place of what was before
-pub renewed : (c : Contents) (old new : PreparedPartialView) (again : AgainView) → new ≡ record old { again = again } → IsAgain old.schema (moved_keys c old.version old.keys) again → IsSettled c new
-renewed c old new again at is = subst (IsSettled c) (sym at) is
+pub renewed : (c : Contents) (segs : List SegmentView) (old new : PreparedPartialView) (again : AgainView) → new ≡ record old { again = again } → IsRemade c segs old again → IsSettled c segs new
+renewed c segs old new again at is = subst (IsSettled c segs) (sym at) (record { is = is.is; read = is.read })
 
 pub renewed-over : (c : Contents) (old new : PreparedPartialView) (again : AgainView) (m : Rows) → new ≡ record old { again = again }
     → again.rows ≡ made_rows old.schema old.load.given m (map folded_of (moved_keys c old.version old.keys)) → IsSettledOver c new m

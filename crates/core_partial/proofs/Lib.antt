@@ -11,6 +11,9 @@ pub mod ReadFacts
 pub mod DamageFacts
 pub mod KeyFacts
 pub mod FewFacts
+pub mod TakenFacts
+pub mod AgainFacts
+pub mod LocateFacts
 pub mod OldFacts
 pub mod MakingFacts
 pub mod PrepareFacts

@@ -16,7 +16,7 @@ use Rattle.segment_read.specs.Reads.{IsDamage, OfBlock, OfFile, OnDamage, Readin
 use Rattle.segment_read.specs.Rows.{IsNoSegment, IsSegmentOf}
 use Rattle.tablet_state.specs.Moving.{HasAt, HasRowOf, IsCopyOf}
 use Rattle.tablet_state.specs.State.{SegmentView, segment_of}
-use Rattle.core_partial.specs.Moving.{IsOfBlock, IsRowAt}
+use Rattle.core_partial.specs.Moving.{IsBlockOf, IsRowAt}
 
 some_one : {X : Type 0} (x y : X) → Some x ≡ Some y → x ≡ y
 some_one x y e = cc
@@ -40,12 +40,10 @@ row_at_place s segs p copy row is read g there file told mark at =
     (ap (λ (f : Footer). slice_get f.blocks (p.row / 1024)) (is.footer ∙ ap (λ (x : SegmentView). x.footer) same) ∙ at)
 
 pub damage_there : (s : Layout) (segs : List SegmentView) (p : Place) (copy : SegmentView) (d : Damaged) → IsCopyOf segs p.segment copy
-    → IsDamage copy.number (part.Block (p.row / 1024)) (λ shown. OfFile copy.reader (λ file. OfBlock copy.footer (p.row / 1024) (λ mark. BlockShown s mark (block_in file mark) shown))) d → IsOfBlock s segs d
+    → IsDamage copy.number (part.Block (p.row / 1024)) (λ shown. OfFile copy.reader (λ file. OfBlock copy.footer (p.row / 1024) (λ mark. BlockShown s mark (block_in file mark) shown))) d → IsBlockOf s segs p d
 damage_there s segs p copy d is h = record {
-  file = p.segment;
   segment = is.segment;
   there = is.there;
-  block = p.row / 1024;
   damage = record {
     file_is = h.file_is ∙ is.number;
     part_is = h.part_is;

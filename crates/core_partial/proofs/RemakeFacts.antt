@@ -1,5 +1,5 @@
 -- Rows of keys that moved, made again one after the other.
-use Rattle.std.proofs.Common.{◌≡◌, refl, ap, sym, subst, ◌∙◌, ℕ, zero, suc, ◌+◌, ◌≤◌, List, [], ◌∷◌, ◌++◌, map, take, length, Option, Some, None, option_to_list, Bool as Truth, true, false, ◌&&◌, cond, T, append-nil, append_assoc, arith}
+use Rattle.std.proofs.Common.{◌≡◌, refl, ap, sym, subst, ◌∙◌, ℕ, zero, suc, ◌+◌, ◌<◌, ◌≤◌, List, [], ◌∷◌, ◌++◌, map, take, get_or, length, Option, Some, None, option_to_list, Bool as Truth, true, false, ◌&&◌, cond, T, append-nil, append_assoc, arith}
 use Rattle.std.specs.Prelude.{All, IfSome, IsTrue}
 use Rattle.std.specs.List.{AllByRecursion, filter}
 use Rattle.std.specs.FinMap.{get}
@@ -19,7 +19,9 @@ use Rattle.pk_model.specs.declared.calls.Load.{Load}
 use Rattle.segment_form.specs.Segments.{KeysRise}
 use Rattle.rowsets.specs.Indexing.{CodeMove, code_moves}
 use Rattle.rowsets.specs.Scans.{RowsRise}
+use Rattle.index_level0.specs.declared.place.Place.{Place}
 use Rattle.tablet_state.specs.Contents.{Contents}
+use Rattle.tablet_state.specs.State.{SegmentView}
 use Rattle.partial_loads.specs.declared.folds.Folded.{Folded}
 use Rattle.partial_loads.specs.Folded.{HasCode, rise_strictly}
 use Rattle.partial_loads.specs.Folds.{apply}
@@ -33,12 +35,13 @@ use Rattle.core_publish.specs.Results.{KeyResult, place_at, placed, rows_left}
 use Rattle.core_publish.proofs.PlaceFacts.{entries-are}
 use Rattle.core_publish.proofs.ResultFacts.{AllAbove, AllRise, keys_of}
 use Rattle.core_partial.specs.Again.{AreRemade, Remakes, RemakesKey, RemakesMore, results_of, row_made}
-use Rattle.core_partial.specs.Moving.{IsAgain, IsOldFor, is_moved_key, made_places, moved_keys}
+use Rattle.core_partial.specs.Moving.{AreOldsNow, IsAgain, IsMadeOfNow, IsOldAt, IsOldNow, asked_now, is_moved_key, made_places, moved_keys}
 use Rattle.core_partial.specs.Prepared.{AgainView, folded_of}
 use Rattle.core_partial.specs.Results.{place_for}
 use Rattle.core_partial.specs.declared.again.Remade.{Remade}
 use Rattle.core_partial.specs.declared.keys.PreparedKey.{PreparedKey}
 use Rattle.core_partial.proofs.ChangeFacts.{AreCoded}
+use Rattle.core_partial.proofs.LoopFacts.{front-more}
 use Rattle.core_partial.proofs.SubFacts.{keys_in}
 
 abbrev Row : Type 0
@@ -106,28 +109,51 @@ rows-append s given m (f ∷ fs) gs =
 
 -- ---- one key more
 
-one-more : (s : Layout) (given : List ℕ) (ks : List PreparedKey) (k : PreparedKey) (old new : Remade) → HasCode s (folded_of k) → AreRemade s given ks old → RemakesKey s given k old new → AreRemade s given (ks ++ k ∷ []) new
-one-more s given ks k old new code are is =
+-- old rows now, of one key more
+now-more : (c : Contents) (segs : List SegmentView) (ks : List PreparedKey) (os : List (Option Row)) (k : PreparedKey) (o : Option Row) → AreOldsNow c segs ks os → IsOldNow c segs k o
+    → AreOldsNow c segs (ks ++ k ∷ []) (os ++ o ∷ [])
+now-more c segs [] [] k o h g = (g, tt)
+now-more c segs [] (x ∷ os) k o h g = absurd h
+now-more c segs (x ∷ ks) [] k o h g = absurd h
+now-more c segs (x ∷ ks) (y ∷ os) k o h g = (h.0, now-more c segs ks os k o h.1 g)
+
+old-fits : (c : Contents) (segs : List SegmentView) (key : List Value) (at : Option Place) (o : Option Row) → IsOldAt c segs key at o → IfSome o (λ row. IsTrue (fits_row c.schema row) × (key_of c.schema row ≡ key))
+old-fits c segs key None o h = subst (λ (x : Option Row). IfSome x (λ row. IsTrue (fits_row c.schema row) × (key_of c.schema row ≡ key))) (sym h) tt
+old-fits c segs key (Some p) o h = subst (λ (x : Option Row). IfSome x (λ row. IsTrue (fits_row c.schema row) × (key_of c.schema row ≡ key))) (sym h.1) (h.2.fits, h.2.key_is)
+
+-- they fit
+pub now-fit : (c : Contents) (segs : List SegmentView) (ks : List PreparedKey) (os : List (Option Row)) → AreOldsNow c segs ks os → AreOlds c.schema (map folded_of ks) os
+now-fit c segs [] [] h = tt
+now-fit c segs [] (o ∷ os) h = absurd h
+now-fit c segs (k ∷ ks) [] h = absurd h
+now-fit c segs (k ∷ ks) (o ∷ os) h = (old-fits c segs k.key (asked_now c k) o h.0, now-fit c segs ks os h.1)
+
+one-more : (c : Contents) (segs : List SegmentView) (given : List ℕ) (ks : List PreparedKey) (k : PreparedKey) (old new : Remade) → HasCode c.schema (folded_of k) → AreRemade c segs given ks old
+    → RemakesKey c segs given k old new → AreRemade c segs given (ks ++ k ∷ []) new
+one-more c segs given ks k old new code are is =
+    let s : Layout = c.schema in
+    let fit : AreOlds s (map folded_of ks) are.olds = now-fit c segs ks are.olds are.are in
     let as_many : length old.results.rows.items ≡ 0 + length (rows_left (results_of s given ks are.olds)) = ap length are.rows ∙ ap length (sym (left-made s given ks are.olds)) in
     let folds : map folded_of (ks ++ k ∷ []) ≡ map folded_of ks ++ folded_of k ∷ [] = map-append folded_of ks (k ∷ []) in
     record {
       olds = are.olds ++ is.row ∷ [];
-      fit = subst (λ (fs : List Folded). AreOlds s fs (are.olds ++ is.row ∷ [])) (sym folds) (olds-more s (map folded_of ks) are.olds (folded_of k) is.row are.fit is.fits);
-      rows = is.rows ∙ ap (λ rows. rows ++ option_to_list (row_made s given k is.row)) are.rows ∙ sym (made-more s given (map folded_of ks) are.olds (folded_of k) is.row are.fit)
+      are = now-more c segs ks are.olds k is.row are.are is.is;
+      rows = is.rows ∙ ap (λ rows. rows ++ option_to_list (row_made s given k is.row)) are.rows ∙ sym (made-more s given (map folded_of ks) are.olds (folded_of k) is.row fit)
           ∙ ap (λ (fs : List Folded). rows_made s given fs (are.olds ++ is.row ∷ [])) (sym folds);
       moves = is.moves ∙ (λ i. are.moves i ++ (code.code i, place_for (as_many i) (row_made s given k is.row)) ∷ [])
-          ∙ sym (placed-more s 0 (results_of s given ks are.olds) k.key (row_made s given k is.row)) ∙ ap (placed s 0) (sym (results-more s given ks are.olds k is.row are.fit));
+          ∙ sym (placed-more s 0 (results_of s given ks are.olds) k.key (row_made s given k is.row)) ∙ ap (placed s 0) (sym (results-more s given ks are.olds k is.row fit));
       stale = is.stale ∙ ap (λ ps. ps ++ option_to_list k.made) are.stale ∙ sym (places-more ks k);
     }
 
-pub remade-more : (s : Layout) (given : List ℕ) (c : Contents) (v : ℕ) (ks : List PreparedKey) (k : PreparedKey) (old new : Remade) → HasCode s (folded_of k) → AreRemade s given (moved_keys c v ks) old
-    → RemakesMore s given c v k old new → AreRemade s given (moved_keys c v (ks ++ k ∷ [])) new
-remade-more s given c v ks k old new code are more =
-    subst (λ (xs : List PreparedKey). AreRemade s given xs new) (sym (filter-append (is_moved_key c v) ks (k ∷ []))) (go (is_moved_key c v k) more)
+pub remade-more : (c : Contents) (segs : List SegmentView) (given : List ℕ) (v : ℕ) (ks : List PreparedKey) (k : PreparedKey) (old new : Remade) → HasCode c.schema (folded_of k) → AreRemade c segs given (moved_keys c v ks) old
+    → RemakesMore c segs given v k old new → AreRemade c segs given (moved_keys c v (ks ++ k ∷ [])) new
+remade-more c segs given v ks k old new code are more =
+    subst (λ (xs : List PreparedKey). AreRemade c segs given xs new) (sym (filter-append (is_moved_key c v) ks (k ∷ []))) (go (is_moved_key c v k) more)
   where
-    go : (t : Truth) → Remakes t s given k old new → AreRemade s given (moved_keys c v ks ++ cond t (k ∷ []) []) new
-    go true is = one-more s given (moved_keys c v ks) k old new code are is
-    go false same = subst (λ (r : Remade). AreRemade s given (moved_keys c v ks ++ []) r) (sym same) (subst (λ (xs : List PreparedKey). AreRemade s given xs old) (sym (append-nil (moved_keys c v ks))) are)
+    go : (t : Truth) → Remakes t c segs given k old new → AreRemade c segs given (moved_keys c v ks ++ cond t (k ∷ []) []) new
+    go true is = one-more c segs given (moved_keys c v ks) k old new code are is
+    go false same = subst (λ (r : Remade). AreRemade c segs given (moved_keys c v ks ++ []) r) (sym same)
+        (subst (λ (xs : List PreparedKey). AreRemade c segs given xs old) (sym (append-nil (moved_keys c v ks))) are)
 
 pub over-more : (s : Layout) (given : List ℕ) (c : Contents) (v : ℕ) (m : Rows) (ks : List PreparedKey) (k : PreparedKey) (old new : List Row) → old ≡ made_rows s given m (map folded_of (moved_keys c v ks))
     → new ≡ old ++ made_rows s given m (map folded_of (moved_keys c v (k ∷ []))) → new ≡ made_rows s given m (map folded_of (moved_keys c v (ks ++ k ∷ [])))
@@ -191,20 +217,26 @@ pub all-coded : (s : Layout) (ks : List PreparedKey) → AreCoded s ks → AllBy
 all-coded s [] h = tt
 all-coded s (k ∷ ks) h = (h.0, all-coded s ks h.1)
 
-module _ (s : Layout) (load : Load) (clean : schema_fault s.columns s.keys ≡ None) (lawful : IsLawful s load) (ks : List PreparedKey) (have : HaveChanges load (map folded_of ks))
-    (coded : AreCoded s ks) (rise : T (rise_strictly (keys_in ks))) (remade : Remade) (are : AreRemade s load.given ks remade) where
+module _ (c : Contents) (segs : List SegmentView) (load : Load) (clean : schema_fault c.schema.columns c.schema.keys ≡ None) (lawful : IsLawful c.schema load) (ks : List PreparedKey)
+    (have : HaveChanges load (map folded_of ks)) (coded : AreCoded c.schema ks) (rise : T (rise_strictly (keys_in ks))) (remade : Remade) (are : AreRemade c segs load.given ks remade) where
+  abbrev s : Layout
+  s = c.schema
+
+  are-fit : AreOlds s (map folded_of ks) are.olds
+  are-fit = now-fit c segs ks are.olds are.are
+
   -- the rows can be written, and the moves tell where they stand then
   pub rows-fit : All (λ row. IsTrue (fits_row s row)) remade.results.rows.items
-  rows-fit = subst (All (λ row. IsTrue (fits_row s row))) (sym are.rows) (fit s load clean lawful (map folded_of ks) are.olds have (all-coded s ks coded) are.fit)
+  rows-fit = subst (All (λ row. IsTrue (fits_row s row))) (sym are.rows) (fit s load clean lawful (map folded_of ks) are.olds have (all-coded s ks coded) are-fit)
 
   pub rows-rise : KeysRise s remade.results.rows.items
-  rows-rise = subst (KeysRise s) (sym are.rows) (keys-rise s (rows_made s load.given (map folded_of ks) are.olds) (rises s load clean lawful (map folded_of ks) are.olds rise have (all-coded s ks coded) are.fit))
+  rows-rise = subst (KeysRise s) (sym are.rows) (keys-rise s (rows_made s load.given (map folded_of ks) are.olds) (rises s load clean lawful (map folded_of ks) are.olds rise have (all-coded s ks coded) are-fit))
 
   pub moves-are : remade.results.moves.items ≡ code_moves (key_code s) (moves_to s 0 (files_of remade.results.rows.items) (keys_in ks))
   moves-are =
       are.moves
-      ∙ entries-are s (results_of s load.given ks are.olds) remade.results.rows.items (are.rows ∙ sym (left-made s load.given ks are.olds)) (all-rise s load.given ks are.olds rise) (own-all s load clean lawful ks are.olds have coded are.fit)
-      ∙ ap (λ keys. code_moves (key_code s) (moves_to s 0 (files_of remade.results.rows.items) keys)) (same-keys s load.given ks are.olds are.fit)
+      ∙ entries-are s (results_of s load.given ks are.olds) remade.results.rows.items (are.rows ∙ sym (left-made s load.given ks are.olds)) (all-rise s load.given ks are.olds rise) (own-all s load clean lawful ks are.olds have coded are-fit)
+      ∙ ap (λ keys. code_moves (key_code s) (moves_to s 0 (files_of remade.results.rows.items) keys)) (same-keys s load.given ks are.olds are-fit)
 
 pub long-front : {X : Type 0} (test : X → Truth) (xs : List X) (n : ℕ) → length (filter test (take n xs)) ≤ length (filter test xs)
 long-front test [] n = omega arith
@@ -215,13 +247,25 @@ long-front test (x ∷ xs) (suc n) = go (test x) (long-front test xs n)
     go true le = omega arith
     go false le = le
 
-pub is-again : (s : Layout) (load : Load) → schema_fault s.columns s.keys ≡ None → IsLawful s load → (ks : List PreparedKey) → HaveChanges load (map folded_of ks) → AreCoded s ks → T (rise_strictly (keys_in ks))
-    → (remade : Remade) → AreRemade s load.given ks remade → (again : AgainView) (files : List NewSegment) → again.moves ≡ remade.results.moves.items → again.stale ≡ remade.stale.items
-    → again.rows ≡ remade.results.rows.items → again.files ≡ files → AreSealedOf s (files_of remade.results.rows.items) files → IsAgain s ks again
-is-again s load clean lawful ks have coded rise remade are again files moves stale rows kept sealed = record {
+pub front-one : (c : Contents) (v : ℕ) (ks : List PreparedKey) (i : ℕ) (k : PreparedKey) → i < length ks → k ≡ get_or ks i k
+    → length (moved_keys c v (take i ks)) + length (moved_keys c v (k ∷ [])) ≤ length (moved_keys c v ks)
+front-one c v ks i k lt is =
+    let next = long-more c v (take i ks) k in
+    let front = ap (λ (xs : List PreparedKey). length (moved_keys c v xs)) (front-more ks i k lt is) in
+    let most = long-front (is_moved_key c v) ks (i + 1) in
+    omega (arith, next, front, most)
+
+pub is-again : (c : Contents) (segs : List SegmentView) (load : Load) → schema_fault c.schema.columns c.schema.keys ≡ None → IsLawful c.schema load → (ks : List PreparedKey) → HaveChanges load (map folded_of ks)
+    → AreCoded c.schema ks → T (rise_strictly (keys_in ks)) → (remade : Remade) → AreRemade c segs load.given ks remade → (again : AgainView) (files : List NewSegment) → again.moves ≡ remade.results.moves.items → again.stale ≡ remade.stale.items
+    → again.rows ≡ remade.results.rows.items → again.files ≡ files → AreSealedOf c.schema (files_of remade.results.rows.items) files → IsAgain c.schema ks again
+is-again c segs load clean lawful ks have coded rise remade are again files moves stale rows kept sealed = record {
   files = record {
-    sealed = subst (λ (rs : List Row). AreSealedOf s (files_of rs) again.files) (sym rows) (subst (AreSealedOf s (files_of remade.results.rows.items)) (sym kept) sealed);
-    moves_are = moves ∙ moves-are s load clean lawful ks have coded rise remade are ∙ ap (λ (rs : List Row). code_moves (key_code s) (moves_to s 0 (files_of rs) (keys_in ks))) (sym rows);
+    sealed = subst (λ (rs : List Row). AreSealedOf c.schema (files_of rs) again.files) (sym rows) (subst (AreSealedOf c.schema (files_of remade.results.rows.items)) (sym kept) sealed);
+    moves_are = moves ∙ moves-are c segs load clean lawful ks have coded rise remade are ∙ ap (λ (rs : List Row). code_moves (key_code c.schema) (moves_to c.schema 0 (files_of rs) (keys_in ks))) (sym rows);
   };
   stale_are = stale ∙ are.stale;
 }
+
+pub made-of-now : (c : Contents) (segs : List SegmentView) (given : List ℕ) (ks : List PreparedKey) (remade : Remade) (again : AgainView) → AreRemade c segs given ks remade → again.rows ≡ remade.results.rows.items
+    → IsMadeOfNow c segs given ks again
+made-of-now c segs given ks remade again are rows = record { olds = are.olds; are = are.are; rows_are = rows ∙ are.rows }

@@ -1,5 +1,5 @@
 -- Publishing a partial load is a step of the book that a state has.
-use Rattle.std.proofs.Common.{◌≡◌, refl, ap, sym, subst, ◌∙◌, ℕ, ◌+◌, ◌-◌, ◌^◌, ◌≤◌, min, List, [], ◌∷◌, ◌++◌, map, length, Option, Some, None, Bool as Truth, true, false, ◌==◌, arith}
+use Rattle.std.proofs.Common.{◌≡◌, refl, ap, sym, subst, ◌∙◌, ℕ, ◌+◌, ◌-◌, ◌^◌, ◌≤◌, min, List, [], ◌∷◌, ◌++◌, map, length, Option, Some, None, Bool as Truth, true, false, ◌==◌, append-nil, arith}
 use Rattle.std.specs.Prelude.{Result, Ok, Err}
 use Rattle.std.specs.List.{AllByRecursion}
 use Rattle.dev_traits.specs.Causes.{HasReadCause}
@@ -20,8 +20,9 @@ use Rattle.tablet_state.specs.State.{Has, SegmentView, Shown, Steps, faults_of, 
 use Rattle.tablet_state.proofs.ReplyFacts.{damage_is_a_step, fault_is_a_step}
 use Rattle.core_publish.proofs.TurnFacts.{memory_step, takes}
 use Rattle.core_publish.specs.Publishing.{IsPublishing, uses_up}
-use Rattle.core_publish.specs.Replies.{shut_after, told_by_reply}
-use Rattle.core_partial.specs.Publishing.{closes_by, reply_to}
+use Rattle.core_publish.specs.Replies.{TellsShut, shut_after, told_by_reply}
+use Rattle.core_partial.specs.Publishing.{ReadsAtMost, closes_by, emptied, reply_to}
+use Rattle.core_partial.specs.Prepared.{PreparedPartialView}
 
 pub lent_refusal : {S : Type 0} (view : S → View) (old mid : Shown S) → Lends view old mid → refusal_of mid ≡ refusal_of old
 lent_refusal view old mid l = λ i. refusal (l.closed i) (worn_of (l.contents i)) (length (l.contents i).older + 1 == 1000)
@@ -39,25 +40,6 @@ fail_step view old mid new b seq n load (read.Damaged d) h e kept closed same =
     let on = takes view old b h e in
     let is = damage_is_a_step new.contents.schema b seq d load on.0 on.1 in
     (is.0, subst (λ (x : Book). Has view new x) (sym is.1) (closed refl))
-
--- ---- reads
-
-abbrev total : List (ℕ × ℕ) → ℕ
-total [] = 0
-total (p ∷ ps) = p.1 + total ps
-
-total-of : (gs : List SegmentView) → total (reads_of gs) ≡ total_reads gs
-total-of [] = refl
-total-of (g ∷ gs) = ap (λ n. g.reader.reads + n) (total-of gs)
-
-total-more : (xs ys : List (ℕ × ℕ)) → AllByRecursion (λ p. p.1 ≡ 0) ys → total (xs ++ ys) ≡ total xs
-total-more (x ∷ xs) ys h = ap (λ n. x.1 + n) (total-more xs ys h)
-total-more [] [] h = refl
-total-more [] (y ∷ ys) h = let none = h.0 in let rest = total-more [] ys h.1 in omega arith
-
--- readers of new files have read nothing
-pub no_more_reads : (old new : List SegmentView) → (more : List (ℕ × ℕ)) × (reads_of new ≡ reads_of old ++ more) × AllByRecursion (λ p. p.1 ≡ 0) more → total_reads new ≡ total_reads old
-no_more_reads old new r = sym (total-of new) ∙ ap total r.1 ∙ total-more (reads_of old) r.0 r.2 ∙ total-of old
 
 -- ---- after a fault
 
@@ -160,3 +142,44 @@ module _ {S : Type 0} (view : S → View) (old mid new : Shown S) (seq : ℕ) (f
       worn_not read.StoreFault e = cc
       worn_not (read.Damaged d) e = cc
       worn_not read.Memory e = cc
+
+  pub fails_other : (p : ℕ) → (r ≡ reply.ManyVersions → ⊥) × (r ≡ reply.Closed p → ⊥)
+  fails_other p = ((λ e. many_not fault (sym f.told ∙ e)), λ e. closed_not fault (sym f.told ∙ e))
+    where
+      many_not : (x : ReadFault) → reply_to x (faults_of view mid) ≡ reply.ManyVersions → ⊥
+      many_not read.StoreFault e = cc
+      many_not (read.Damaged d) e = cc
+      many_not read.Memory e = cc
+
+      closed_not : (x : ReadFault) → reply_to x (faults_of view mid) ≡ reply.Closed p → ⊥
+      closed_not read.StoreFault e = cc
+      closed_not (read.Damaged d) e = cc
+      closed_not read.Memory e = cc
+
+  pub fails_tells : TellsShut old.closed r
+  fails_tells = subst (λ (o : Option ℕ). TellsShut o r) (sym f.open_) (subst (TellsShut None) (sym f.told) (tells fault))
+    where
+      tells : (x : ReadFault) → TellsShut None (reply_to x (faults_of view mid))
+      tells read.StoreFault = tt
+      tells (read.Damaged d) = tt
+      tells read.Memory = tt
+
+  pub fails_reads : (count : ℕ) → total_reads mid.segments ≤ total_reads old.segments + count → ReadsAtMost count old.segments new.segments
+  fails_reads count most = record {
+    read = mid.segments;
+    same = f.lends.segments;
+    most = most;
+    more = [];
+    new_are = ap reads_of fails_segments ∙ sym (append-nil (reads_of mid.segments));
+    unread = tt;
+  }
+
+-- a load that a fault used up, or not
+pub fail_spent : (closes : Truth) (old new : PreparedPartialView) → old.spent ≡ false → (closes ≡ false → new ≡ old) → (closes ≡ true → new ≡ emptied old) → new.spent ≡ closes
+fail_spent true old new unspent kept spent = ap (λ (p : PreparedPartialView). p.spent) (spent refl)
+fail_spent false old new unspent kept spent = ap (λ (p : PreparedPartialView). p.spent) (kept refl) ∙ unspent
+
+-- reads that came before, and none after
+pub reads_then : {S : Type 0} (view : S → View) (old mid new : Shown S) (count : ℕ) → Lends view old mid → total_reads mid.segments ≤ total_reads old.segments + count
+    → (more : List (ℕ × ℕ)) × (reads_of new.segments ≡ reads_of mid.segments ++ more) × AllByRecursion (λ p. p.1 ≡ 0) more → ReadsAtMost count old.segments new.segments
+reads_then view old mid new count lends most r = record { read = mid.segments; same = lends.segments; most = most; more = r.0; new_are = r.1; unread = r.2 }

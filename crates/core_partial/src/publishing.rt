@@ -7,7 +7,6 @@ ghost use Rattle.pk_model.specs.declared.calls.Call.TheVariants as call;
 ghost use Rattle.pk_model.specs.declared.calls.Reply.{Reply};
 ghost use Rattle.pk_model.specs.declared.calls.Reply.TheVariants as reply;
 ghost use Rattle.tablet_state.specs.Contents.{current_number, worn_of};
-ghost use Rattle.tablet_state.specs.Moving.{total_reads};
 ghost use Rattle.tablet_state.specs.Snapshots.{Lends};
 ghost use Rattle.tablet_state.specs.State.{Has, Rests, StandsThroughout, Steps, faults_of, reads_of, refusal_of};
 ghost use Rattle.core_publish.specs.Replies.{TellsShut, shut_after, told_by_reply};

@@ -15,7 +15,7 @@ invariant-loop-key g l =
     let done = moved_keys c l.version (take l.key-index l.keys) in
     record {
       lends : Lends g.S.Store.view l.fn.state l.state;
-      made : AreRemade l.schema l.given done l.remade;
+      made : AreRemade c l.fn.state.segments l.given done l.remade;
       over : (b : Book) → Has g.S.Store.view l.fn.state b → l.fn.state.closed ≡ None → l.remade.results.rows.items ≡ made_rows l.schema l.given b.current (map folded_of done);
       reads : total_reads l.state.segments ≤ total_reads l.fn.state.segments + length done;
       unfailed : faults_of g.S.Store.view l.state ≡ faults_of g.S.Store.view l.fn.state;

@@ -68,7 +68,7 @@ returns-in-Ok-apply-clause-held g c v e =
     let ready = c.in-Ok.ready in
     let made : List NewSegment = map see ready.change.files.items in
     let same : c.ready_of.new.state.contents ≡ st.contents = c.ready_of.ensures.rests.contents in
-    held_with st.contents c.args.prepared.now c.args.again made ready.change.index.items ready.change.dead.items ready.body ready.current (vec_len ready.change.files) c.apply.new.self.contents
+    held_with st.contents st.segments c.args.prepared.now c.args.again made ready.change.index.items ready.change.dead.items ready.body ready.current (vec_len ready.change.files) c.apply.new.self.contents
     c.requires.again c.in-Ok.ensures.taken
     (subst (λ (x : Contents). IsLed x (new_files x.next_file made) ready.change.dead.items ready.body (next_contents (length made) ready.current ready.change.index.items x)) same c.in-Ok.ensures.made.led)
     (ready.change.files.ok.0 ∙ sym (length-map ready.change.files.items see))

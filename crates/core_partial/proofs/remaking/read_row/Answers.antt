@@ -6,7 +6,7 @@ use Rattle.segment_read.specs.Reads.{KnowsFooter, OnDamage}
 use Rattle.tablet_state.specs.Moving.{HasAt, total_reads}
 use Rattle.tablet_state.specs.Seen.{segment_seen}
 use Rattle.tablet_state.specs.State.{SegmentView, faults_of}
-use Rattle.core_partial.specs.Moving.{IsOfBlock, IsRowAt}
+use Rattle.core_partial.specs.Moving.{IsBlockOf, IsRowAt}
 use Rattle.core_partial.proofs.LendFacts.{cause_back, has_lends, lends_then, rests_lends, rests_reads}
 use Rattle.core_partial.proofs.ReadFacts.{damage_there, no_damage, on_damage, reading_failed, reading_well, row_at_place, row_of_book, row_within}
 use Rattle.core_partial.proofs.remaking.read_row.Goals as goal
