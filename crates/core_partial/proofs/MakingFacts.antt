@@ -1,5 +1,5 @@
 -- The rows of a load's keys, made one after the other.
-use Rattle.std.proofs.Common.{◌≡◌, refl, ap, sym, subst, ◌∙◌, ℕ, zero, suc, ◌+◌, ◌<◌, List, [], ◌∷◌, ◌++◌, map, length, take, drop, get_or, Option, Some, None, option_to_list, T, arith}
+use Rattle.std.proofs.Common.{◌≡◌, refl, ap, sym, subst, ◌∙◌, ℕ, zero, suc, ◌+◌, ◌<◌, ◌≤◌, List, [], ◌∷◌, ◌++◌, map, length, take, drop, get_or, Option, Some, None, option_to_list, T, arith}
 use Rattle.std.specs.Prelude.{All, IfSome, IsTrue}
 use Rattle.std.specs.List.{AllByRecursion}
 use Rattle.std.specs.FinMap.{get}
@@ -77,6 +77,77 @@ one-made s given fs was os f place old before after olds code so_far makes = rec
 
     as_many : length before.results.rows.items ≡ 0 + length (rows_left (results_of s given ks os))
     as_many = ap length so_far.are.rows ∙ ap length (sym (left-made s given ks os))
+
+-- ---- one after the other
+
+pub drop-next : {X : Type 0} (i : ℕ) (xs : List X) (x : X) (rest : List X) → drop i xs ≡ x ∷ rest → drop (i + 1) xs ≡ rest
+drop-next zero [] x rest e = cc
+drop-next zero (y ∷ ys) x rest e = cc
+drop-next (suc i) [] x rest e = cc
+drop-next (suc i) (y ∷ ys) x rest e = drop-next i ys x rest e
+
+take-next : {X : Type 0} (i : ℕ) (xs : List X) (x : X) (rest : List X) → drop i xs ≡ x ∷ rest → take (i + 1) xs ≡ take i xs ++ x ∷ []
+take-next zero [] x rest e = cc
+take-next zero (y ∷ ys) x rest e = cc
+take-next (suc i) [] x rest e = cc
+take-next (suc i) (y ∷ ys) x rest e = ap (λ zs. y ∷ zs) (take-next i ys x rest e)
+
+take-all : {X : Type 0} (i : ℕ) (xs : List X) → length xs ≤ i → take i xs ≡ xs
+take-all zero [] le = refl
+take-all zero (x ∷ xs) le = absurd (omega arith)
+take-all (suc i) [] le = refl
+take-all (suc i) (x ∷ xs) le = ap (λ ys. x ∷ ys) (take-all i xs (omega arith))
+
+olds-first : (s : Layout) (i : ℕ) (fs : List Folded) (os : List (Option Row)) → AreOlds s fs os → AreOlds s (take i fs) (take i os)
+olds-first s zero fs os h = tt
+olds-first s (suc i) [] [] h = tt
+olds-first s (suc i) [] (o ∷ os) h = absurd h
+olds-first s (suc i) (f ∷ fs) [] h = absurd h
+olds-first s (suc i) (f ∷ fs) (o ∷ os) h = (h.0, olds-first s i fs os h.1)
+
+code-at : (s : Layout) (i : ℕ) (fs : List Folded) (f : Folded) (rest : List Folded) → AllByRecursion (HasCode s) fs → drop i fs ≡ f ∷ rest → HasCode s f
+code-at s zero [] f rest h e = cc
+code-at s zero (g ∷ fs) f rest h e = subst (HasCode s) (head_same g f fs rest e) h.0
+  where
+    head_same : (a b : Folded) (as bs : List Folded) → a ∷ as ≡ b ∷ bs → a ≡ b
+    head_same a b as bs e = cc
+code-at s (suc i) [] f rest h e = cc
+code-at s (suc i) (g ∷ fs) f rest h e = code-at s i fs f rest h.1 e
+
+pub olds-long : (s : Layout) (fs : List Folded) (os : List (Option Row)) → AreOlds s fs os → length os ≡ length fs
+olds-long s [] [] h = refl
+olds-long s [] (o ∷ os) h = absurd h
+olds-long s (f ∷ fs) [] h = absurd h
+olds-long s (f ∷ fs) (o ∷ os) h = ap suc (olds-long s fs os h)
+
+-- some are left
+pub none-left : {X : Type 0} (i : ℕ) (xs : List X) → drop i xs ≡ [] → i < length xs → ⊥
+none-left i [] e lt = absurd (omega arith)
+none-left zero (x ∷ xs) e lt = cc
+none-left (suc i) (x ∷ xs) e lt = none-left i xs e (omega arith)
+
+place-next : (i : ℕ) (es : List CodeMove) (d : CodeMove) → i < length es → map (λ (e : CodeMove). e.1) (take (i + 1) es) ≡ map (λ (e : CodeMove). e.1) (take i es) ++ (get_or es i d).1 ∷ []
+place-next i [] d lt = absurd (omega arith)
+place-next zero (e ∷ es) d lt = refl
+place-next (suc i) (e ∷ es) d lt = ap (λ ps. e.1 ∷ ps) (place-next i es d (omega arith))
+
+pub next-made : (s : Layout) (given : List ℕ) (fs : List Folded) (es : List CodeMove) (os : List (Option Row)) (i : ℕ) (f : Folded) (more : List Folded) (d : CodeMove) (old : Option Row) (others : List (Option Row))
+    (before after : MadeKeys) → AreOlds s fs os → AllByRecursion (HasCode s) fs → i < length es → drop i fs ≡ f ∷ more → drop i os ≡ old ∷ others
+    → AreMadeSoFar s given (take i fs) (map (λ (e : CodeMove). e.1) (take i es)) (take i os) before → MakesKey s given f (get_or es i d).1 old before after
+    → AreMadeSoFar s given (take (i + 1) fs) (map (λ (e : CodeMove). e.1) (take (i + 1) es)) (take (i + 1) os) after
+next-made s given fs es os i f more d old others before after olds coded lt there was so_far makes =
+    subst (λ gs. AreMadeSoFar s given gs (map (λ (e : CodeMove). e.1) (take (i + 1) es)) (take (i + 1) os) after) (sym (take-next i fs f more there))
+    (subst (λ ps. AreMadeSoFar s given (take i fs ++ f ∷ []) ps (take (i + 1) os) after) (sym (place-next i es d lt))
+    (subst (λ rs. AreMadeSoFar s given (take i fs ++ f ∷ []) (map (λ (e : CodeMove). e.1) (take i es) ++ (get_or es i d).1 ∷ []) rs after) (sym (take-next i os old others was))
+    (one-made s given (take i fs) (map (λ (e : CodeMove). e.1) (take i es)) (take i os) f (get_or es i d).1 old before after (olds-first s i fs os olds) (code-at s i fs f more coded there) so_far makes)))
+
+pub made-all : (s : Layout) (given : List ℕ) (fs : List Folded) (es : List CodeMove) (os : List (Option Row)) (i : ℕ) (made : MadeKeys) → AreOlds s fs os → length es ≡ length fs → length es ≤ i
+    → AreMadeSoFar s given (take i fs) (map (λ (e : CodeMove). e.1) (take i es)) (take i os) made → AreMadeSoFar s given fs (map (λ (e : CodeMove). e.1) es) os made
+made-all s given fs es os i made olds long le so_far =
+    let many = olds-long s fs os olds in
+    subst (λ gs. AreMadeSoFar s given gs (map (λ (e : CodeMove). e.1) es) os made) (take-all i fs (omega (arith, long, le)))
+    (subst (λ xs. AreMadeSoFar s given (take i fs) (map (λ (e : CodeMove). e.1) xs) os made) (take-all i es le)
+    (subst (λ rs. AreMadeSoFar s given (take i fs) (map (λ (e : CodeMove). e.1) (take i es)) rs made) (take-all i os (omega (arith, long, many, le))) so_far))
 
 -- the places at which keys were located, with their codes
 pub located-are : (ks : List PreparedKey) (es : List CodeMove) → map (λ (k : PreparedKey). k.code) ks ≡ map (λ (e : CodeMove). e.0) es → map was_of ks ≡ map (λ (e : CodeMove). e.1) es

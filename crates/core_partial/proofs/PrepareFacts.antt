@@ -3,6 +3,11 @@ use Rattle.std.proofs.Common.{◌≡◌, refl, ap, sym, subst, ◌∙◌, ℕ, z
 use Rattle.std.specs.Prelude.{All, IfSome, IsTrue}
 use Rattle.std.specs.List.{AllByRecursion}
 use Rattle.std.specs.FinMap.{get}
+use Rattle.std.proofs.lemmas.List.Elements.{All-nil}
+use Rattle.dev_traits.specs.declared.faults.Damaged.{Damaged}
+use Rattle.dev_traits.specs.declared.faults.ReadFault.{ReadFault}
+use Rattle.dev_traits.specs.declared.faults.ReadFault.TheVariants as read
+use Rattle.segment_read.specs.Reads.{OnDamage}
 use Rattle.pk_values.specs.Schemas.{Layout, schema_fault}
 use Rattle.pk_values.specs.declared.cells.Value.{Value}
 use Rattle.key_code.specs.KeyCode.{key_code}
@@ -21,11 +26,11 @@ use Rattle.partial_loads.specs.Olds.{AreAllOf, AreOlds, AreOldsOf, made_of as ro
 use Rattle.partial_loads.proofs.MakeFacts.{folded_have_changes}
 use Rattle.partial_loads.proofs.OldFacts.{olds_have_map, olds_make_rows}
 use Rattle.old_rows.specs.Reading.{AreOldsRead, Olds, SameButCounts, still}
-use Rattle.old_rows.proofs.StillFacts.{seen-same}
+use Rattle.old_rows.proofs.StillFacts.{none-read as nothing-read, seen-same}
 use Rattle.core_partial.specs.Found.{AreTold, FoundView, IsFoundOf, IsLocated, codes_of, part_seen}
 use Rattle.core_partial.specs.Making.{AreMadeKeys, was_of}
 use Rattle.core_partial.specs.Prepared.{IsMadeOver, folded_of, located_move}
-use Rattle.core_partial.specs.Preparing.{AreFoundKeys, IsMadeOfRead}
+use Rattle.core_partial.specs.Preparing.{AreFoundKeys, IsMadeOfRead, ReadsFound}
 use Rattle.core_partial.specs.declared.keys.PreparedKey.{PreparedKey}
 use Rattle.core_partial.specs.declared.making.MadeKeys.{MadeKeys}
 use Rattle.core_partial.proofs.MakingFacts.{located-are, made-fit, made-moves, made-rise}
@@ -200,6 +205,17 @@ found-stays f g same load located m h =
   where
     seen : map part_seen f.snapshot.parts ≡ map part_seen g.snapshot.parts
     seen = sym (seen-same f.snapshot g.snapshot same)
+
+-- ---- what is told
+
+pub on-damage : (e : ReadFault) (P Q : Damaged → Type 0) → ((d : Damaged) → P d → Q d) → OnDamage e P → OnDamage e Q
+on-damage (read.Damaged d) P Q f h = f d h
+on-damage read.StoreFault P Q f h = tt
+on-damage read.Memory P Q f h = tt
+
+-- nothing was read
+pub none-asked : (f : FoundView) → ReadsFound f f
+none-asked f = record { blocks = []; once = tt; asked_for = All-nil _; read = nothing-read [] f.snapshot.parts }
 
 -- ---- what is counted
 

@@ -1,5 +1,5 @@
 -- What preparing a partial load reads and makes of what was found, and what it may tell.
-use Rattle.std.specs.Prelude.{◌≡◌, List, map, Option, Some, None, All, IsTrue, true, ⊤}
+use Rattle.std.specs.Prelude.{◌≡◌, ℕ, List, map, Option, Some, None, All, IsTrue, true, ⊤}
 use Rattle.dev_traits.specs.declared.faults.Damaged.{Damaged}
 use Rattle.dev_traits.specs.declared.faults.OutsideFault.{OutsideFault}
 use Rattle.dev_traits.specs.declared.faults.OutsideFault.TheVariants as outside
@@ -9,9 +9,11 @@ use Rattle.pk_values.specs.declared.cells.Value.{Value}
 use Rattle.pk_model.specs.Laws.{KeysStandFirst}
 use Rattle.pk_model.specs.Lawful.{IsLawful}
 use Rattle.pk_model.specs.Tables.{Rows, touches}
+use Rattle.pk_model.specs.declared.calls.Op.{Op}
 use Rattle.index_level0.specs.declared.place.Place.{Place}
 use Rattle.rowsets.specs.Live.{is_among}
-use Rattle.rowsets.specs.Indexing.{code_moves, place_stored}
+use Rattle.rowsets.specs.Indexing.{CodeMove, code_moves, place_stored}
+use Rattle.snapshot_scan.specs.Snapshots.{SnapshotView}
 use Rattle.segment_form.specs.Segments.{KeysRise}
 use Rattle.partial_loads.specs.declared.folds.Folded.{Folded}
 use Rattle.partial_loads.specs.Folded.{AreFolded, folded_keys}
@@ -29,6 +31,10 @@ abbrev pub OnOutsideDamage : OutsideFault → (Damaged → Type 0) → Type 0
 OnOutsideDamage (outside.Damaged damaged) P = P damaged
 OnOutsideDamage outside.Fault P = ⊤
 OnOutsideDamage outside.Memory P = ⊤
+
+-- a load with these columns and lines that was located in a snapshot
+abbrev pub found_in : List ℕ → List Op → SnapshotView → List CodeMove → FoundView
+found_in given ops snapshot located = record { load = record { given = given; ops = ops }; snapshot = snapshot; located = located }
 
 -- The load names this key, its change asks for the old row, and it is located at this place.
 pub record AsksFor (f : FoundView) (p : Place) : Type 0 where

@@ -10,6 +10,7 @@ mod making;
 mod prepared;
 mod preparing;
 mod publishing;
+mod reading;
 mod ready;
 mod remaking;
 mod results;

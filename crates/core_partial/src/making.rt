@@ -34,7 +34,7 @@ fn make_key(
 {
     let Folded { code, key, change } = key;
     let row = change.apply(alloc, schema, given, None, &key, old)?;
-    let place = made.results.add(code, row)?;
+    let place = made.results.add(code.copy(), row)?;
     made.keys.push(PreparedKey {
         code,
         key,
@@ -65,10 +65,13 @@ pub fn make_keys(
         keys: Vec::with_capacity(alloc, keys.len())?,
         results: Results::with_room(alloc, keys.len())?,
     };
-    let mut keys = VecDeque::from(keys);
-    let mut olds = VecDeque::from(olds);
+    let mut left = VecDeque::from(keys);
+    let mut old_rows = VecDeque::from(olds);
     for entry in located {
-        let (Some(key), Some(old)) = (keys.pop_front(), olds.pop_front()) else {
+        let Some(key) = left.pop_front() else {
+            unreachable!();
+        };
+        let Some(old) = old_rows.pop_front() else {
             unreachable!();
         };
         make_key(alloc, schema, given, key, entry.1, old, &mut made)?;

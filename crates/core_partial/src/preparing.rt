@@ -9,13 +9,12 @@ ghost use Rattle.old_rows.specs.Reading.{ReadsCause, SameButCounts};
 ghost use Rattle.core_partial.specs.Preparing.{AreFoundKeys, IsFoundDamage, IsMadeOfRead, OnOutsideDamage, ReadsFound};
 ghost use Rattle.core_partial.specs.Prepared.{IsMadeOver, WasMadeOver, folded_of, located_move, nothing_again};
 
-use crate::making::{MadeKeys, make_keys};
+use crate::making::MadeKeys;
 use crate::prepared::Again;
+use crate::reading::keys_over;
 use crate::{Found, PreparedPartial};
 use core_publish::write_files;
 use dev_traits::{FileMaker, OutsideFault, ReadFault, SealedReader};
-use old_rows::read_olds;
-use partial_loads::fold_lines;
 use pk_model::{Load, Op};
 use std::alloc::Global;
 use std::snapshot::Snapshot;
@@ -34,17 +33,14 @@ fn found_keys<R: SealedReader>(
     ensures over { IfOk result (λ made. (m : Rows) → IsFoundOf found.old m
         → IsMadeOver found.old.snapshot.schema found.old.load made.keys.items made.results.rows.items m) }
     ensures damaged { IfErr result (λ e. OnDamage e (IsFoundDamage found.old)) }
+    ensures intact { IfErr result (λ e. OnDamage e (λ _. (m : Rows) → IsFoundOf found.old m → ⊥)) }
     ensures cause { ReadsCause (fault_count found.old.snapshot.parts) (fault_count found.new.snapshot.parts) result }
     ensures reads { ReadsFound found.old found.new }
     ensures same { SameButCounts found.old.snapshot found.new.snapshot }
     ensures load { found.new.load ≡ found.old.load }
     ensures places { found.new.located ≡ found.old.located }
 {
-    let _columns = found.snapshot.schema().columns();
-    let keys = fold_lines(alloc, found.snapshot.schema(), given, None, ops)?;
-    let olds = read_olds(alloc, &mut found.snapshot, &keys, &found.entries)?;
-    let schema = found.snapshot.schema();
-    Ok(make_keys(alloc, schema, given, keys, &found.entries, olds)?)
+    keys_over(alloc, &mut found.snapshot, &found.entries, given, ops)
 }
 
 /// Prepares a partial load that was located: folds the lines of each key into one change, reads the old rows that the

@@ -1,6 +1,7 @@
 -- One block was read: what is the same then, what is counted, and what is taken of it.
 use Rattle.std.proofs.Common.{◌≡◌, ◌≢◌, refl, ap, sym, subst, ◌∙◌, ℕ, ◌+◌, ◌/◌, ◌<◌, List, [], ◌∷◌, ◌++◌, length, Option, Some, IfSome, slice_get}
 use Rattle.std.specs.Prelude.{Err, IfErr, IsErrOf, Ok, Result}
+use Rattle.dev_traits.specs.declared.faults.Damaged.{Damaged}
 use Rattle.dev_traits.specs.declared.faults.ReadFault.{ReadFault}
 use Rattle.dev_traits.specs.declared.faults.ReadFault.TheVariants as read
 use Rattle.pk_values.specs.Schemas.{Layout}
@@ -54,6 +55,19 @@ pub cause-after : {T U : Type 0} (old new : ℕ) (first : Result T ReadFault) (x
 cause-after old new first x result is cause unfailed =
     let same : new ≡ old = cause.well (λ e. ok_err (sym is ∙ e)) in
     subst (λ n. ReadsCause old n result) (sym same) (none-counted old result (unfailed-so result unfailed))
+
+pub cause-err : {T U : Type 0} (old new : ℕ) (first : Result T ReadFault) (e : ReadFault) (result : Result U ReadFault) → first ≡ Err e → result ≡ Err e
+    → ReadsCause old new first → ReadsCause old new result
+cause-err old new first e result is so cause = record {
+  well = λ n. cause.well (λ h. n (so ∙ ap (λ (x : ReadFault). Err x) (err_same e read.StoreFault (sym is ∙ h))));
+  failed = λ h. cause.failed (is ∙ ap (λ (x : ReadFault). Err x) (err_same e read.StoreFault (sym so ∙ h)));
+}
+
+damaged_failed : (d : Damaged) → read.Damaged d ≡ read.StoreFault → ⊥
+damaged_failed d e = cc
+
+pub astray-counts : {U : Type 0} (count : ℕ) (d : Damaged) (e : ReadFault) (result : Result U ReadFault) → e ≡ read.Damaged d → result ≡ Err e → ReadsCause count count result
+astray-counts count d e result is so = none-counted count result (λ h. damaged_failed d (sym is ∙ err_same e read.StoreFault (sym so ∙ h)))
 
 -- ---- the part as it is then
 

@@ -1,5 +1,5 @@
 -- A run of wanted rows among all: it stands in one block, and what was filled in and read with it.
-use Rattle.std.proofs.Common.{◌≡◌, refl, ap, sym, subst, ◌∙◌, ℕ, zero, suc, ◌+◌, ◌<◌, ◌≤◌, List, [], ◌∷◌, ◌++◌, map, length, take, drop, arith}
+use Rattle.std.proofs.Common.{◌≡◌, refl, ap, sym, subst, ◌∙◌, ℕ, zero, suc, ◌+◌, ◌-◌, ◌<◌, ◌≤◌, List, [], ◌∷◌, ◌++◌, map, length, take, drop, arith}
 use Rattle.std.specs.Prelude.{All, Err, IfErr, IsErrOf, Ok, Result}
 use Rattle.std.proofs.lemmas.List.Elements.{All-cons, All-nil}
 use Rattle.dev_traits.specs.declared.faults.ReadFault.{ReadFault}
@@ -42,8 +42,8 @@ some-left n [] lt = absurd (omega arith)
 some-left zero (w ∷ ws) lt = (w, ws, refl)
 some-left (suc n) (w ∷ ws) lt = some-left n ws (omega arith)
 
-head_is : (a b : Wanted) (as bs : List Wanted) → a ∷ as ≡ b ∷ bs → a ≡ b
-head_is a b as bs e = cc
+head_is : (a b : Wanted) (xs ys : List Wanted) → a ∷ xs ≡ b ∷ ys → a ≡ b
+head_is a b xs ys e = cc
 
 pub take-all : (n : ℕ) (ws : List Wanted) → length ws ≤ n → take n ws ≡ ws
 take-all zero [] le = refl
@@ -57,9 +57,25 @@ front : (count : ℕ) (u : Wanted) (us : List Wanted) → 1 ≤ count → (vs : 
 front zero u us some = absurd (omega arith)
 front (suc n) u us some = (take n us, refl)
 
-module _ (wanted : List Wanted) (at count : ℕ) (lt : at < length wanted) (is : IsRun count (drop at wanted)) where
-  abbrev pub run : List Wanted
-  run = take count (drop at wanted)
+drop-long : (n : ℕ) (ws : List Wanted) → n ≤ length ws → n + length (drop n ws) ≡ length ws
+drop-long zero ws le = omega arith
+drop-long (suc n) [] le = absurd (omega arith)
+drop-long (suc n) (w ∷ ws) le = let more = drop-long n ws (omega arith) in omega (arith, more)
+
+-- the slices that are taken
+pub rest-is : (n : ℕ) (ws : List Wanted) → n ≤ length ws → take (length ws - n) (drop n ws) ≡ drop n ws
+rest-is n ws le = let long = drop-long n ws le in take-all (length ws - n) (drop n ws) (omega (arith, long))
+
+pub run-is : (n m : ℕ) (ws : List Wanted) → take (n + m - n) (drop n ws) ≡ take m (drop n ws)
+run-is n m ws = let e : n + m - n ≡ m = omega arith in ap (λ k. take k (drop n ws)) e
+
+module _ (wanted : List Wanted) (at count : ℕ) (lt : at < length wanted) (rest run : List Wanted) (rest_is : rest ≡ drop at wanted) (run_is : run ≡ take count (drop at wanted))
+    (is_rest : IsRun count rest) where
+  is : IsRun count (drop at wanted)
+  is = subst (IsRun count) rest_is is_rest
+
+  pub run-most : at + count ≤ length wanted
+  run-most = let long = drop-long at wanted (omega (arith, lt)) in omega (arith, long, is.most)
 
   head : (u : Wanted) × (us : List Wanted) × (drop at wanted ≡ u ∷ us)
   head = some-left at wanted lt
@@ -67,17 +83,18 @@ module _ (wanted : List Wanted) (at count : ℕ) (lt : at < length wanted) (is :
   first : (vs : List Wanted) × (run ≡ head.0 ∷ vs)
   first =
       let vs = front count head.0 head.1 is.some in
-      (vs.0, ap (take count) head.2 ∙ vs.1)
+      (vs.0, run_is ∙ ap (take count) head.2 ∙ vs.1)
 
   pub run-some : 0 < length run
   run-some = let e : length run ≡ suc (length first.0) = ap length first.1 in omega (arith, e)
 
   pub run-one : InOneBlock run
   run-one w ws e =
-      subst (λ u. All (λ v. block_of v.place ≡ block_of u.place) run) (head_is head.0 w first.0 ws (sym first.1 ∙ e)) (is.one head.0 head.1 head.2)
+      subst (λ u. All (λ v. block_of v.place ≡ block_of u.place) run) (head_is head.0 w first.0 ws (sym first.1 ∙ e))
+      (subst (All (λ v. block_of v.place ≡ block_of head.0.place)) (sym run_is) (is.one head.0 head.1 head.2))
 
   pub run-keys : (keys : List Folded) → HaveKeys keys wanted → HaveKeys keys run
-  run-keys keys have = all-take (λ w. w.key < length keys) count (drop at wanted) (all-drop (λ w. w.key < length keys) at wanted have)
+  run-keys keys have = subst (All (λ w. w.key < length keys)) (sym run_is) (all-take (λ w. w.key < length keys) count (drop at wanted) (all-drop (λ w. w.key < length keys) at wanted have))
 
   runs-are : runs (map place_wanted (drop at wanted)) ≡ block_of head.0.place ∷ runs (map place_wanted (drop (at + count) wanted))
   runs-are = is.rest head.0 head.1 head.2 ∙ ap (λ ws. block_of head.0.place ∷ runs (map place_wanted ws)) (drop-drop at count wanted)
@@ -87,7 +104,7 @@ module _ (wanted : List Wanted) (at count : ℕ) (lt : at < length wanted) (is :
         → ((done : List Wanted) → AreFilled mid keys done old → AreFilled mid keys (done ++ run) after) → AreFilled v keys (take (at + count) wanted) after
     run-filled keys old after filled more =
         filled-same v mid keys (take (at + count) wanted) after same
-        (subst (λ ws. AreFilled mid keys ws after) (take-take at count wanted)
+        (subst (λ ws. AreFilled mid keys ws after) (ap (λ ws. take at wanted ++ ws) run_is ∙ take-take at count wanted)
         (more (take at wanted) (filled-same mid v keys (take at wanted) old (same-back v mid same) filled)))
 
     module _ (before : ReadSoFar wanted at v.parts mid.parts) (read : (w : Wanted) (ws : List Wanted) → run ≡ w ∷ ws → ReadBlocks (block_of w.place ∷ []) mid.parts new.parts) where
@@ -98,7 +115,7 @@ module _ (wanted : List Wanted) (at count : ℕ) (lt : at < length wanted) (is :
       last-reads = all-read wanted at (block_of head.0.place) (runs (map place_wanted (drop (at + count) wanted))) v mid new.parts runs-are before same (read head.0 first.0 first.1)
 
     pub run-damage : (keys : List Folded) (e : ReadFault) → OnDamage e (IsReadingDamage mid keys run) → OnDamage e (IsReadingDamage v keys wanted)
-    run-damage keys (read.Damaged d) h = damage-of-all v mid keys wanted run at count d same refl h
+    run-damage keys (read.Damaged d) h = damage-of-all v mid keys wanted run at count d same run_is h
     run-damage keys read.StoreFault h = tt
     run-damage keys read.Memory h = tt
 

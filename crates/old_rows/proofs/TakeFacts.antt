@@ -26,6 +26,9 @@ some_same x y e = cc
 clash : (b : Truth) → b ≡ true → b ≡ false → ⊥
 clash b e f = cc (sym e ∙ f)
 
+pub at-index : {X : Type 0} (xs : List X) (i : ℕ) (x : X) → i < length xs → x ≡ get_or xs i x → slice_get xs i ≡ Some x
+at-index xs i x lt is = slice_get-get_or xs i x lt ∙ ap Some (sym is)
+
 -- the first of these are filled in
 abbrev pub FillsFirst : Layout → List (List Value) → List ℕ → List Folded → List Wanted → List Wanted → Olds → Olds → Type 0
 FillsFirst s rows dead keys wanted first old new = (v : SnapshotView) (done : List Wanted)
