@@ -53,12 +53,12 @@ prepared-count x n m h = h.well (λ e. cc e)
 
 -- ---- damage outside a turn
 
-pub on-damage : (f : OutsideFault) (P Q : Type 0) → (P → Q) → OnOutsideDamage f P → OnOutsideDamage f Q
+pub on-damage : (f : OutsideFault) (P Q : Damaged → Type 0) → ((d : Damaged) → P d → Q d) → OnOutsideDamage f P → OnOutsideDamage f Q
 on-damage outside.Fault P Q g h = tt
-on-damage (outside.Damaged d) P Q g h = g h
+on-damage (outside.Damaged d) P Q g h = g d h
 on-damage outside.Memory P Q g h = tt
 
-undamaged : (f : OutsideFault) → OnOutsideDamage f ⊥ → TellsIntact (outcome.Outside f)
+undamaged : (f : OutsideFault) → OnOutsideDamage f (λ d. ⊥) → TellsIntact (outcome.Outside f)
 undamaged outside.Fault h = tt
 undamaged (outside.Damaged d) h = h
 undamaged outside.Memory h = tt
@@ -71,7 +71,7 @@ some-rows (Some x) P h n = n x h
 module _ {S : Type 0} (view : S → View) (place : ℕ) (load : Load) where
   -- it wasn't prepared
   pub unready-ends : {T : Type 0} (st : Shown S) (f : OutsideFault) (n m : ℕ) → HasOutsideCause {T = T} (min n (2 ^ 64 - 1)) (min m (2 ^ 64 - 1)) (Err f)
-      → ((b : Book) → Has view st b → OnOutsideDamage f ⊥)
+      → ((b : Book) → Has view st b → OnOutsideDamage f (λ d. ⊥))
       → EndsFound view st.contents.schema load place st st (faults_beside view st n) (faults_beside view st m) (record { parts = parts.First; outcome = outcome.Outside f })
   unready-ends st f n m cause intact = record {
     took = [];

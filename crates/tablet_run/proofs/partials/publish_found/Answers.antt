@@ -28,4 +28,4 @@ returns-in-Err g c =
     let n = (g.S.Maker.FileMaker.view c.args.maker.now).faults + fault_count c.args.found.now.snapshot.parts in
     let m = (g.S.Maker.FileMaker.view c.prepare_partial.new.maker).faults + fault_count c.prepare_partial.new.found.snapshot.parts in
     unready-ends g.S.Store.view c.args.place c.args.load c.args.state.now c.in-Err.fault n m c.in-Err.ensures.cause
-    (λ b has. on-damage c.in-Err.fault _ ⊥ (λ none. some-rows (rows_at b c.args.found.now.snapshot.version) (IsFoundOf c.args.found.now) (c.requires.stands b has) none) c.in-Err.ensures.intact)
+    (λ b has. on-damage c.in-Err.fault _ (λ d. ⊥) (λ d none. some-rows (rows_at b c.args.found.now.snapshot.version) (IsFoundOf c.args.found.now) (c.requires.stands b has) none) c.in-Err.ensures.intact)
