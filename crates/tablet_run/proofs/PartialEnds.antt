@@ -93,9 +93,9 @@ module _ {S : Type 0} (view : S → View) (place : ℕ) (load : Load) where
       → EndsFound view old.contents.schema load place old new (faults_beside view old n) (faults_beside view new m) (record { parts = parts.FirstLast; outcome = outcome.Turn r })
   published-ends old new given r n m same count turn moment intact tells shut stays schema honest rose worn stays_worn =
       let acts = published-acts view place part.Last old new load r (min n (2 ^ 64 - 1)) (min m (2 ^ 64 - 1)) count
-          (subst (λ l. (b : Book) → Has view old b → Steps view new b place (call.Load l) r) same turn)
-          (subst (λ l. (b : Book) → Has view old b → old.closed ≡ None → StandsThroughout old.contents.schema b place (call.Load l) (view old.store) (view new.store)) same moment)
-          intact (tells-shut old.closed r tells) (shut ∙ same-shut old.closed place r) stays schema honest rose worn stays_worn in
+      (subst (λ l. (b : Book) → Has view old b → Steps view new b place (call.Load l) r) same turn)
+      (subst (λ l. (b : Book) → Has view old b → old.closed ≡ None → StandsThroughout old.contents.schema b place (call.Load l) (view old.store) (view new.store)) same moment)
+      intact (tells-shut old.closed r tells) (shut ∙ same-shut old.closed place r) stays schema honest rose worn stays_worn in
       let took = (record { part = part.Last; call = call.Load load; reply = r }) ∷ [] in
       record {
         took = took;

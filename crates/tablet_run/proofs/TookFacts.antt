@@ -63,8 +63,7 @@ turns-stood s j mine n place seen (t ∷ took) e h =
     let there : entry_at (seen ++ entry ∷ entries_of took) place ≡ Some entry = ap (entry_at (seen ++ entry ∷ entries_of took)) e ∙ get-here seen entry (entries_of took) in
     let moved : (seen ++ entry ∷ []) ++ entries_of took ≡ seen ++ entry ∷ entries_of took = append_assoc seen (entry ∷ []) (entries_of took) in
     let count = length-append seen (entry ∷ []) in
-    let later = turns-stood s j mine n (place + 1) (seen ++ entry ∷ []) took (omega (arith, e, count)) h.1 in
-    (
+    let later = turns-stood s j mine n (place + 1) (seen ++ entry ∷ []) took (omega (arith, e, count)) h.1 in (
       subst (λ o. IsSomeAnd o (IsTurnOf s j mine turn)) (sym there) (record { calls = h.0; replies = refl }),
       subst (λ es. AllByRecursion (IsSeen s es j mine) (turns_at n (place + 1) took)) moved later,
     )

@@ -137,7 +137,8 @@ fn is_built_act(act: &JobAct) -> bool
     ensures { result ≡ is_built_act act.now }
 {
     match act {
-        JobAct::Load(_) | JobAct::Partial(_) | JobAct::Scan(_) | JobAct::Expire(_) | JobAct::Stat => true,
+        JobAct::Load(_) | JobAct::Partial(_) | JobAct::Scan(_) | JobAct::Expire(_) | JobAct::Stat =>
+            true,
         JobAct::Compact => false,
     }
 }
