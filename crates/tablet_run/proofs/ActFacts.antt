@@ -34,7 +34,7 @@ use Rattle.reports.proofs.BearingLaws.{rose-beside}
 use Rattle.core_publish.specs.Replies.{IsOpening, told_by_reply}
 use Rattle.tablet_state.specs.Contents.{worn_of}
 use Rattle.tablet_state.specs.State.{Has, Shown, StandsThroughout, Steps, faults_of}
-use Rattle.tablet_run.specs.Doing.{Acts, ActsOver, AreOfJob, IsAfter, Took, entries_of, faults_beside}
+use Rattle.tablet_run.specs.Doing.{Acts, ActsOver, AreOfJob, IsAfter, Took, entries_of, faults_beside, turns_at}
 use Rattle.tablet_run.specs.Scanning.{IsIdle}
 use Rattle.tablet_run.specs.Worn.{IsWornOut, OnWorn}
 use Rattle.tablet_run.proofs.DoingFacts.{committed, goes-on, goes-turn, intact-turn, opened, opened-leaves, opening-intact, opening-stays, opening-tells, rests-after, told-turn}
@@ -85,7 +85,7 @@ pub one-of-job : (s : Layout) (j : FiledJob) (place : ℕ) (t : Took) (o : Outco
     → ((u : Turn) → u.part ≡ t.part → u.reply ≡ t.reply → IsCourse s j (u ∷ []) o)
     → AreOfJob s j place (t ∷ []) o
 one-of-job s j place t o calls listed course = record {
-  calls = λ number. (calls _, tt);
+  calls = λ number. (calls (turns_at number place (t ∷ [])), tt);
   listed = (listed, tt);
   course = λ number. course (record { job = number; part = t.part; place = place; reply = t.reply }) refl refl;
 }

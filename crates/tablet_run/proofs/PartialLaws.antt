@@ -110,11 +110,14 @@ module _ {S : Type 0} (view : S → View) (j : FiledJob) (place : ℕ) (name : L
     pub last-of-job : (v : ℕ) (r : Reply)
         → AreOfJob s j place ((record { part = part.First; call = call.Open Latest; reply = reply.Opened v }) ∷ (record { part = part.Last; call = call.Load load; reply = r }) ∷ []) (outcome.Turn r)
     last-of-job v r = record {
-      calls = λ number. (first-call _, last-call _, tt);
-      listed = (first-listed (reply.Opened v) tt, last-listed r, tt);
+      calls = λ number. let mine = turns_at number place took in (first-call mine, (last-call mine, tt));
+      listed = (first-listed (reply.Opened v) tt, (last-listed r, tt));
       course = λ number. course (record { job = number; part = part.First; place = place; reply = reply.Opened v })
-          ((record { job = number; part = part.Last; place = place + 1; reply = r }) ∷ []) (outcome.Turn r) refl (refl, refl, refl);
+          ((record { job = number; part = part.Last; place = place + 1; reply = r }) ∷ []) (outcome.Turn r) refl (refl, (refl, refl));
     }
+      where
+        took : List Took
+        took = (record { part = part.First; call = call.Open Latest; reply = reply.Opened v }) ∷ (record { part = part.Last; call = call.Load load; reply = r }) ∷ []
 
   -- one whose keys weren't looked up
   pub unfound-does : (old new : Shown S) (load : Load) (r : Reply) (n : ℕ) → load_in old.contents.schema j ≡ Ok load
