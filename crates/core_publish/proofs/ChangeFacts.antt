@@ -40,7 +40,7 @@ use Rattle.core_publish.proofs.KeyFacts.{as-many, comes, dies-still, found-place
 
 -- ---- its files
 
-sealed-told : (s : Layout) (files : List (List (List Value))) (made : List NewSegment) → AreSealedOf s files made → AllByRecursion (λ m. is_some m.0 ≡ true) made → AreSealed s files made
+pub sealed-told : (s : Layout) (files : List (List (List Value))) (made : List NewSegment) → AreSealedOf s files made → AllByRecursion (λ m. is_some m.0 ≡ true) made → AreSealed s files made
 sealed-told s [] [] are told = tt
 sealed-told s [] (m ∷ made) are told = absurd are
 sealed-told s (rows ∷ files) [] are told = absurd are
@@ -59,7 +59,7 @@ made-of s rows m lawful are bytes footer =
       known = λ file told. subst (λ (f : Footer). HasFooter s f file) (sym footer) (subst (HasFooter s (footer_of s rows)) (sym (bytes file told)) (has_its_footer s rows is));
     }
 
-known-all : (s : Layout) (files : List (List (List Value))) (made : List NewSegment) → schema_fault s.columns s.keys ≡ None → AreSealedOf s files made → AllByRecursion (IsMadeOf s) made
+pub known-all : (s : Layout) (files : List (List (List Value))) (made : List NewSegment) → schema_fault s.columns s.keys ≡ None → AreSealedOf s files made → AllByRecursion (IsMadeOf s) made
 known-all s [] [] lawful are = tt
 known-all s [] (m ∷ made) lawful are = absurd are
 known-all s (rows ∷ files) [] lawful are = absurd are

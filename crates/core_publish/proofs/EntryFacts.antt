@@ -49,7 +49,7 @@ place-on first (e ∷ es) k = by (place-on first es k) (eq_by_cmp key_cmp k e.ke
     by rest true = refl
     by rest false = rest
 
-place-in : (s : Layout) (first : ℕ) (files : List (List (List Value))) (k : List Value) → place_in s first files k ≡ placed_from first (place_in s 0 files k)
+pub place-in : (s : Layout) (first : ℕ) (files : List (List (List Value))) (k : List Value) → place_in s first files k ≡ placed_from first (place_in s 0 files k)
 place-in s first files k =
     let here : (n : ℕ) → place_in s n files k ≡ merged_place (moved_over s n files) k = λ n.
     ap (λ es. merged_place es k) (moved-fresh s (fresh n files) n files (agree-fresh n files (λ m. []))) in
@@ -57,7 +57,7 @@ place-in s first files k =
     here first ∙ ap (λ n. merged_place (moved_over s n files) k) (sym none) ∙ ap (λ es. merged_place es k) (sym (over-on s first 0 files))
     ∙ place-on first (moved_over s 0 files) k ∙ ap (placed_from first) (sym (here 0))
 
-entries-on : (s : Layout) (first : ℕ) (files : List (List (List Value))) (keys : List (List Value))
+pub entries-on : (s : Layout) (first : ℕ) (files : List (List (List Value))) (keys : List (List Value))
     → map (entry_from first) (code_moves (key_code s) (moves_to s 0 files keys)) ≡ code_moves (key_code s) (moves_to s first files keys)
 entries-on s first files [] = refl
 entries-on s first files (k ∷ keys) = (λ i. (key_code s k, sym (place-in s first files k) i) ∷ entries-on s first files keys i)
@@ -67,7 +67,7 @@ entries-are-moves s load files entries p first = ap (map (entry_from first)) p.m
 
 -- ---- four files
 
-abbrev AreBelow : ℕ → List Moved → Type 0
+abbrev pub AreBelow : ℕ → List Moved → Type 0
 AreBelow n es = AllByRecursion (λ e. e.place.segment < n) es
 
 both-below : (n : ℕ) (xs ys : List Moved) → AreBelow n xs → AreBelow n ys → AreBelow n (xs ++ ys)
@@ -78,7 +78,7 @@ in-file-below : (s : Layout) (m n i : ℕ) (rows : List (List Value)) → n < m 
 in-file-below s m n i [] lt = tt
 in-file-below s m n i (row ∷ rows) lt = (lt, in-file-below s m n (i + 1) rows lt)
 
-over-below : (s : Layout) (m n : ℕ) (files : List (List (List Value))) → n + length files ≤ m → AreBelow m (moved_over s n files)
+pub over-below : (s : Layout) (m n : ℕ) (files : List (List (List Value))) → n + length files ≤ m → AreBelow m (moved_over s n files)
 over-below s m n [] h = tt
 over-below s m n (file ∷ files) h = both-below m (moved_in s n 0 file) (moved_over s (n + 1) files) (in-file-below s m n 0 file (omega arith)) (over-below s m (n + 1) files (omega arith))
 

@@ -28,7 +28,7 @@ goes None None false e = (refl, refl, refl)
 pub goes_on : {S : Type 0} (st : Shown S) → refusal_of st ≡ None → (st.closed ≡ None) × (worn_of st.contents ≡ None) × ((length st.contents.older + 1 == 1000) ≡ false)
 goes_on st e = goes st.closed (worn_of st.contents) (length st.contents.older + 1 == 1000) e
 
-takes : {S : Type 0} (view : S → View) (st : Shown S) (b : Book) → Has view st b → refusal_of st ≡ None → (b.closed ≡ None) × (is_full b ≡ false)
+pub takes : {S : Type 0} (view : S → View) (st : Shown S) (b : Book) → Has view st b → refusal_of st ≡ None → (b.closed ≡ None) × (is_full b ≡ false)
 takes view st b h e =
     let on = goes_on st e in
     let as_many : length st.contents.older ≡ length b.older = older_is (view st.store) st.area st.end st.contents b (h.opened on.0).images in

@@ -12,6 +12,7 @@ mod publishing;
 mod ready;
 mod results;
 
+pub use files::write_files;
 pub use laws::prepared_loads;
 pub use opening::{open_version, stat};
 pub use prepared::{Prepared, prepare};

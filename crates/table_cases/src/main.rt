@@ -66,7 +66,7 @@ impl Desk {
             "load" => loads::load(alloc, &self.schemas, &bytes, false),
             "partial" => loads::load(alloc, &self.schemas, &bytes, true),
             "script" => scripts::script(alloc, &bytes),
-            "t" | "s" | "a" => self.runs.file(alloc, call, bytes),
+            "t" | "s" | "a" | "p" => self.runs.file(alloc, call, bytes),
             _ => "no call".to_string(alloc),
         }
     }

@@ -6,13 +6,14 @@ use pk_values::Octets;
 use std::alloc::{AllocError, Global};
 use tablet_run::run;
 
-/// What the inputs `t`, `s` and `a` hold, which takes, puts and calls of the store fail, an image that lines gave, why
+/// What the inputs `t`, `s`, `a` and `p` hold, which takes, puts and calls of the store fail, an image that lines gave, why
 /// the last run ended, and its store.
 #[derive(Drop)]
 pub struct Runs {
     table: Vec<u8>,
     script: Vec<u8>,
     file: Option<Vec<u8>>,
+    partial: Option<Vec<u8>>,
     input_fails: Vec<u64>,
     put_fails: Vec<u64>,
     faults: Faults,
@@ -33,6 +34,7 @@ impl Runs {
             table: Vec::new(alloc),
             script: Vec::new(alloc),
             file: None,
+            partial: None,
             input_fails: Vec::new(alloc),
             put_fails: Vec::new(alloc),
             faults: Faults::none(alloc),
@@ -42,7 +44,7 @@ impl Runs {
         }
     }
 
-    /// `t BYTES`, `s BYTES` and `a BYTES`: what an input holds.
+    /// `t BYTES`, `s BYTES`, `a BYTES` and `p BYTES`: what an input holds.
     pub fn file(
         &mut self,
         alloc: Global,
@@ -53,6 +55,7 @@ impl Runs {
         match name {
             "t" => self.table = bytes,
             "s" => self.script = bytes,
+            "p" => self.partial = Some(bytes),
             _ => self.file = Some(bytes),
         }
         Ok(told)
@@ -90,6 +93,9 @@ impl Runs {
         files.push(entry(alloc, "s", &self.script)?)?;
         if let Some(file) = &self.file {
             files.push(entry(alloc, "a", file)?)?;
+        }
+        if let Some(file) = &self.partial {
+            files.push(entry(alloc, "p", file)?)?;
         }
         let fails = Vec::from_slice(alloc, &self.input_fails)?;
         MemInputs::new(alloc, files, fails)

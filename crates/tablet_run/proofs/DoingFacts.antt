@@ -48,9 +48,8 @@ use Rattle.reports.proofs.PlainSteps.{open-stays, opened-kept, refused-tells, un
 use Rattle.core_publish.specs.Replies.{IsOpening, IsStat, told_by_reply}
 use Rattle.tablet_state.specs.State.{Has, Shown, StandsThroughout, Steps, faults_of}
 use Rattle.tablet_state.specs.Turns.{StandsEither}
-use Rattle.tablet_run.specs.Doing.{Does, HadNone, HadOne, IsAfter, ShutStands, faults_beside}
+use Rattle.tablet_run.specs.Doing.{IsAfter, ShutStands}
 use Rattle.tablet_run.specs.Scanning.{IsIdle, RowsTold}
-use Rattle.tablet_run.specs.declared.lanes.Done.{Done}
 
 -- ---- replies
 

@@ -1,17 +1,14 @@
--- Each kind of job, over a tablet.
-use Rattle.std.proofs.Common.{◌≡◌, ◌≢◌, refl, ap, sym, subst, ◌∙◌, ◌⊎◌, inl, inr, ℕ, zero, suc, ◌+◌, ◌-◌, ◌^◌, ◌≤◌, arith, List, [], ◌∷◌, ◌++◌, length, take, drop, min, Option, Some, None, IsSomeAnd, Result, Ok, Err, true, false, length-append}
+-- Each kind of job with one turn, over a tablet.
+use Rattle.std.proofs.Common.{◌≡◌, ◌≢◌, refl, ap, sym, subst, ◌∙◌, ◌⊎◌, inl, inr, ℕ, zero, suc, ◌+◌, ◌-◌, ◌^◌, ◌≤◌, arith, List, [], ◌∷◌, ◌++◌, length, drop, min, Option, Some, None, IsSomeAnd, Result, Ok, Err, true, false}
 use Rattle.std.specs.Prelude.{⊤}
 use Rattle.std.specs.FinMap as fin
-use Rattle.std.proofs.lemmas.List.{length-drop, take-append-le, take_all}
-use Rattle.dev_traits.specs.Causes.{Counts, HasMakeCause, RoseBy}
+use Rattle.std.proofs.lemmas.List.{length-drop}
+use Rattle.dev_traits.specs.Causes.{Counts, RoseBy}
 use Rattle.dev_traits.specs.Faults.{outside_of_make}
-use Rattle.dev_traits.specs.Image.{Image}
-use Rattle.dev_traits.specs.View.{Calm, EachImage, View}
+use Rattle.dev_traits.specs.View.{Calm, View}
 use Rattle.dev_traits.specs.declared.faults.Damaged.{Damaged}
 use Rattle.dev_traits.specs.declared.faults.MakeFault.{MakeFault}
 use Rattle.dev_traits.specs.declared.faults.MakeFault.TheVariants as make
-use Rattle.dev_traits.specs.declared.faults.OutsideFault.{OutsideFault}
-use Rattle.dev_traits.specs.declared.faults.OutsideFault.TheVariants as outside
 use Rattle.load_csv.specs.declared.loads.LoadFault.{LoadFault}
 use Rattle.load_csv.specs.declared.loads.LoadFault.TheVariants as fault
 use Rattle.load_csv.specs.Loads.{load_of, others, places}
@@ -19,52 +16,47 @@ use Rattle.pk_values.specs.Schemas.{Layout, schema_fault}
 use Rattle.pk_values.specs.SchemaFacts.{keys_within}
 use Rattle.pk_values.specs.declared.cells.Column.{Column}
 use Rattle.pk_model.specs.declared.books.Book.{Book}
-use Rattle.pk_model.specs.declared.calls.Call.{Call}
 use Rattle.pk_model.specs.declared.calls.Call.TheVariants as call
 use Rattle.pk_model.specs.declared.calls.Load.{Load}
 use Rattle.pk_model.specs.declared.calls.Want.{Want}
 use Rattle.pk_model.specs.declared.calls.Reply.{Reply}
 use Rattle.pk_model.specs.declared.calls.Reply.TheVariants as reply
-use Rattle.pk_model.specs.Books.{Entry, IsOfDevice, MayReply, answer, next, replay, rows_at}
+use Rattle.pk_model.specs.Books.{Entry, IsOfDevice, answer, replay, rows_at}
 use Rattle.pk_model.specs.Tables.{Rows}
-use Rattle.pk_model.proofs.HistoryLaws.{replay-append}
 use Rattle.script_text.specs.declared.scripts.JobAct.{JobAct}
 use Rattle.script_text.specs.declared.scripts.JobAct.TheVariants as act
 use Rattle.script_text.specs.declared.outcomes.ItemPart.TheVariants as part
 use Rattle.script_text.specs.declared.outcomes.Outcome.{Outcome}
 use Rattle.script_text.specs.declared.outcomes.Outcome.TheVariants as outcome
+use Rattle.script_text.specs.Texts.{rows_text}
 use Rattle.reports.specs.declared.jobs.FiledJob.{FiledJob}
 use Rattle.reports.specs.declared.turns.Turn.{Turn}
 use Rattle.reports.specs.Bearing.{GoesShut, TellsIntact, TellsOpen, told_by}
-use Rattle.reports.specs.Calm.{IsOfBook}
-use Rattle.reports.specs.Courses.{AreRowsOf, HasTurns, IsCourse, IsOutside, ReadingTells, ScanEnds, WithoutTurn}
+use Rattle.reports.specs.Courses.{AreRowsOf, HasTurns, IsOutside, ReadingTells, ScanEnds, WithoutTurn}
 use Rattle.reports.specs.Jobs.{PartMayGet, call_of, first_place, is_partial, load_call, load_in, part_call}
-use Rattle.script_text.specs.Texts.{rows_text}
-use Rattle.reports.specs.Notes.{entry_at}
-use Rattle.reports.specs.Progress.{IsRun, Turns}
-use Rattle.reports.specs.Reports.{HasItsRows, book_at}
-use Rattle.reports.specs.Shutting.{TellsShut, shut_after, shut_by}
+use Rattle.reports.specs.Progress.{IsRun}
+use Rattle.reports.specs.Reports.{HasItsRows}
+use Rattle.reports.specs.Shutting.{TellsShut, shut_after}
 use Rattle.reports.proofs.BearingLaws.{rose-beside}
-use Rattle.reports.proofs.NoteLaws.{entry-longer}
-use Rattle.reports.proofs.PlainLaws.{get-here}
 use Rattle.reports.proofs.PlainSteps.{load-is, opened-kept, refused-tells}
 use Rattle.core_publish.specs.Replies.{IsOpening, IsStat, told_by_reply}
-use Rattle.tablet_state.specs.State.{Has, Shown, StandsThroughout, Steps, faults_of}
 use Rattle.tablet_state.specs.Contents.{worn_of}
-use Rattle.tablet_state.specs.Turns.{StandsEither}
-use Rattle.tablet_run.specs.Worn.{IsWornOut}
-use Rattle.tablet_run.specs.Doing.{Does, HadNone, HadOne, IsAfter, ShutStands, faults_beside}
+use Rattle.tablet_state.specs.State.{Has, Shown, StandsThroughout, Steps, faults_of}
+use Rattle.tablet_run.specs.Doing.{Does, IsAfter, Took, faults_beside}
 use Rattle.tablet_run.specs.Scanning.{IsIdle, RowsTold}
-use Rattle.tablet_run.specs.declared.lanes.Done.{Done}
-use Rattle.tablet_run.proofs.WornFacts.{load-stays, load-worn, opening-worn, rows-worn, same-worn, stat-worn}
-use Rattle.tablet_run.proofs.DoingFacts.{shut-longer, committed, goes-on, goes-turn, intact-turn, opened, opened-answer, opened-leaves, opening-intact, opening-listed, opening-stays, opening-tells, replay-one, rests-after, scan-refused, stat-intact, stat-leaves, stat-listed, stat-stays, stat-tells, told-turn}
+use Rattle.tablet_run.specs.Worn.{IsWornOut}
+use Rattle.tablet_run.specs.declared.done.Done.{Done}
+use Rattle.tablet_run.specs.declared.done.Parts.TheVariants as parts
+use Rattle.tablet_run.proofs.ActFacts.{none-acts, none-of-job, one-of-job, one-over, published-acts, unopened-acts}
+use Rattle.tablet_run.proofs.DoingFacts.{shut-longer, goes-on, goes-turn, opened, opened-answer, opened-leaves, opening-listed, opening-stays, replay-one, scan-refused, stat-intact, stat-leaves, stat-listed, stat-stays, stat-tells}
+use Rattle.tablet_run.proofs.WornFacts.{rows-worn, same-worn, stat-worn}
 
 -- ---- counts
 
-rose-same : (f n : ℕ) → RoseBy 0 (min (f + n) (2 ^ 64 - 1)) (min (f + n) (2 ^ 64 - 1))
+pub rose-same : (f n : ℕ) → RoseBy 0 (min (f + n) (2 ^ 64 - 1)) (min (f + n) (2 ^ 64 - 1))
 rose-same f n = omega arith
 
-rose-one : (f n m : ℕ) → Counts 1 n m → RoseBy 1 (min (f + n) (2 ^ 64 - 1)) (min (f + m) (2 ^ 64 - 1))
+pub rose-one : (f n m : ℕ) → Counts 1 n m → RoseBy 1 (min (f + n) (2 ^ 64 - 1)) (min (f + m) (2 ^ 64 - 1))
 rose-one f n m h = omega (arith, h)
 
 -- ---- loads
@@ -101,36 +93,13 @@ module _ {S : Type 0} (view : S → View) (j : FiledJob) (place : ℕ) (name : L
       → RoseBy (told_by_reply r) (faults_of view old) (faults_of view new)
       → ((k : ℕ) → r ≡ reply.Worn k → (worn_of old.contents ≡ Some k) × (new ≡ old))
       → ((k : ℕ) → old.closed ≡ None → worn_of old.contents ≡ Some k → r ≡ reply.Worn k)
-      → Does view j place old new (faults_beside view old n) (faults_beside view new m) (record { turn = true; outcome = outcome.Turn r })
+      → Does view j place old new (faults_beside view old n) (faults_beside view new m) (record { parts = parts.Whole; outcome = outcome.Turn r })
   publish-does old new load r n m read same turn moment intact tells shut stays schema honest rose worn stays_worn = record {
-    schema = schema;
-    honest = honest;
-    rose = subst (λ k. RoseBy (told_by (outcome.Turn r)) (faults_beside view old n) (faults_beside view new k)) (sym same)
-        (rose-beside (told_by (outcome.Turn r)) n 0 (faults_of view old) (faults_of view new)
-        (subst (λ k. RoseBy k (faults_of view old) (faults_of view new)) (sym (told-turn r)) rose));
-    goes = subst (λ c. GoesShut old.closed c (outcome.Turn r)) (sym shut) (goes-turn old.closed place r tells);
-    worn = load-worn old new r tells worn;
-    stays = λ b has k h. load-stays old new r worn stays_worn k h;
-    had = inr (
-      refl,
-      record {
-        call = call.Load load;
-        reply = r;
-        calls = load-call-is old.contents.schema load read;
-        listed = load-listed r;
-        course = λ t p e. load-course r t p e;
-        run = tt;
-        tells = tells;
-        shut = shut;
-        over = λ b seen here h. let step = turn (replay old.contents.schema b 1 seen) h.has in record {
-          may = step.0;
-          now = committed view old.contents.schema old new b seen place (call.Load load) r refl schema here h step.1
-              (moment (replay old.contents.schema b 1 seen) h.has) shut stays;
-          rows = tt;
-          intact = intact-turn r (intact (replay old.contents.schema b 1 seen) h.has);
-        };
-      },
-    );
+    took = (record { part = part.Whole; call = call.Load load; reply = r }) ∷ [];
+    parts = refl;
+    acts = published-acts view place part.Whole old new load r n m same turn moment intact tells shut stays schema honest rose worn stays_worn;
+    of_job = one-of-job old.contents.schema j place (record { part = part.Whole; call = call.Load load; reply = r }) (outcome.Turn r)
+        (load-call-is old.contents.schema load read) (load-listed r) (λ t p e. load-course r t p e);
   }
 
   -- one whose files weren't made
@@ -149,23 +118,13 @@ module _ {S : Type 0} (view : S → View) (j : FiledJob) (place : ℕ) (name : L
 
   pub unmade-does : (old : Shown S) (load : Load) (f : MakeFault) (n m : ℕ) → load_in old.contents.schema j ≡ Ok load
       → (f ≡ make.StoreFault → Counts 1 n m) → ((f ≡ make.StoreFault → ⊥) → m ≡ n)
-      → Does view j place old old (faults_beside view old n) (faults_beside view old m) (record { turn = false; outcome = outcome.Outside (outside_of_make f) })
+      → Does view j place old old (faults_beside view old n) (faults_beside view old m) (record { parts = parts.None; outcome = outcome.Outside (outside_of_make f) })
   unmade-does old load f n m read counts same = record {
-    schema = refl;
-    honest = refl;
-    rose = by f counts same;
-    goes = goes-on old.closed (outcome.Outside (outside_of_make f)) tt;
-    worn = tt;
-    stays = λ b has k h. h;
-    had = inl (
-      refl,
-      record {
-        course = made-course old.contents.schema load f read;
-        run = tt;
-        shut = refl;
-        over = λ b seen h. (h, made-intact f);
-      },
-    );
+    took = [];
+    parts = refl;
+    acts = none-acts view place old (outcome.Outside (outside_of_make f)) (faults_beside view old n) (faults_beside view old m) (by f counts same)
+        (goes-on old.closed (outcome.Outside (outside_of_make f)) tt) tt tt (λ b seen h. made-intact f);
+    of_job = none-of-job old.contents.schema j place (outcome.Outside (outside_of_make f)) (made-course old.contents.schema load f read);
   }
     where
       unlike : make.Memory ≡ make.StoreFault → ⊥
@@ -178,24 +137,15 @@ module _ {S : Type 0} (view : S → View) (j : FiledJob) (place : ℕ) (name : L
 
   -- one whose file was refused
   pub unread-does : (old : Shown S) (file : List ℕ) (f : LoadFault) (n : ℕ) → j.file ≡ file → (f ≢ fault.Memory → load_of old.contents.schema false file ≡ Err f)
-      → Does view j place old old (faults_beside view old n) (faults_beside view old n) (record { turn = false; outcome = outcome.Load f })
+      → Does view j place old old (faults_beside view old n) (faults_beside view old n) (record { parts = parts.None; outcome = outcome.Load f })
   unread-does old file f n same told = record {
-    schema = refl;
-    honest = refl;
-    rose = rose-same (faults_of view old) n;
-    goes = goes-on old.closed (outcome.Load f) tt;
-    worn = tt;
-    stays = λ b has k h. h;
-    had = inl (
-      refl,
-      record {
-        course = subst (λ a. WithoutTurn a (load_in old.contents.schema j) (outcome.Load f)) (sym is)
-            (subst (λ l. ReadingTells l f) (sym (load-is old.contents.schema j false file (ap is_partial is) same)) (refused-tells (load_of old.contents.schema false file) f told));
-        run = tt;
-        shut = refl;
-        over = λ b seen h. (h, tt);
-      },
-    );
+    took = [];
+    parts = refl;
+    acts = none-acts view place old (outcome.Load f) (faults_beside view old n) (faults_beside view old n) (rose-same (faults_of view old) n)
+        (goes-on old.closed (outcome.Load f) tt) tt tt (λ b seen h. tt);
+    of_job = none-of-job old.contents.schema j place (outcome.Load f)
+        (subst (λ a. WithoutTurn a (load_in old.contents.schema j) (outcome.Load f)) (sym is)
+        (subst (λ l. ReadingTells l f) (sym (load-is old.contents.schema j false file (ap is_partial is) same)) (refused-tells (load_of old.contents.schema false file) f told)));
   }
 
 -- ---- scans
@@ -238,38 +188,34 @@ module _ {S : Type 0} (view : S → View) (j : FiledJob) (place : ℕ) (want : W
       → TellsShut old.closed (reply.Opened v) → mid.closed ≡ old.closed → mid.contents ≡ old.contents → Calm (view old.store) (view mid.store)
       → faults_of view mid ≡ faults_of view old
       → AreRowsOf v o → RoseBy (told_by o) (faults_of view mid) (faults_of view new) → IsIdle view mid new
-      → Does view j place old new (faults_beside view old n) (faults_beside view new n) (record { turn = true; outcome = o })
+      → Does view j place old new (faults_beside view old n) (faults_beside view new n) (record { parts = parts.Whole; outcome = o })
   scan-does old mid new v o n turn rows tells closed contents calm faults of rose rests =
       let schema : mid.contents.schema ≡ old.contents.schema = ap (λ c. c.schema) contents in
       let same : new.closed ≡ old.closed = rests.closed ∙ closed in
       let stays = opening-stays old.closed place (reply.Opened v) tt in
+      let turned : Took = record { part = part.Whole; call = call.Open want; reply = reply.Opened v } in
       record {
-        schema = ap (λ c. c.schema) (rests.contents ∙ contents);
-        honest = rests.calm.honest ∙ calm.honest;
-        rose = rose-beside (told_by o) n 0 (faults_of view old) (faults_of view new) (subst (λ k. RoseBy (told_by o) k (faults_of view new)) faults rose);
-        goes = subst (λ c. GoesShut old.closed c o) (sym same) (goes-on old.closed o (rows-open v o of).0);
-        worn = rows-worn (IsWornOut new) v o of;
-        stays = λ b has k h. same-worn old new (rests.contents ∙ contents) same k h;
-        had = inr (
-          refl,
-          record {
-            call = call.Open want;
-            reply = reply.Opened v;
-            calls = scan-call old.contents.schema;
-            listed = scan-listed (reply.Opened v) tt;
-            course = λ t p e. scan-course (reply.Opened v) o of t p e;
-            run = (rows-open v o of).1;
-            tells = tells;
-            shut = same ∙ sym stays;
-            over = λ b seen here h. let book = replay old.contents.schema b 1 seen in let step = turn book h.has in let kept = opened-kept book want v (sym (opened-answer book want v step.0)) in
-                let told = rows-of book h.has (rows_at book v) refl kept in record {
-                  may = step.0;
-                  now = opened view old.contents.schema old mid new b seen place (call.Open want) (reply.Opened v) schema here h step.1 calm closed rests;
-                  rows = subst (λ d. HasItsRows d o) (sym (opened-leaves old.contents.schema book (length seen + 1) want v)) told.0;
-                  intact = told.1;
-                };
-          },
-        );
+        took = turned ∷ [];
+        parts = refl;
+        acts = record {
+          schema = ap (λ c. c.schema) (rests.contents ∙ contents);
+          honest = rests.calm.honest ∙ calm.honest;
+          rose = rose-beside (told_by o) n 0 (faults_of view old) (faults_of view new) (subst (λ k. RoseBy (told_by o) k (faults_of view new)) faults rose);
+          goes = subst (λ c. GoesShut old.closed c o) (sym same) (goes-on old.closed o (rows-open v o of).0);
+          run = (rows-open v o of).1;
+          worn = rows-worn (IsWornOut new) v o of;
+          stays = λ b has k h. same-worn old new (rests.contents ∙ contents) same k h;
+          shuts = (tells, same ∙ sym stays);
+          over = λ b seen here h. let book = replay old.contents.schema b 1 seen in let step = turn book h.has in let kept = opened-kept book want v (sym (opened-answer book want v step.0)) in
+              let told = rows-of book h.has (rows_at book v) refl kept in
+              one-over old.contents.schema (IsAfter view old.contents.schema new) b seen place turned o here (record {
+                may = step.0;
+                now = opened view old.contents.schema old mid new b seen place (call.Open want) (reply.Opened v) schema here h step.1 calm closed rests;
+                rows = subst (λ d. HasItsRows d o) (sym (opened-leaves old.contents.schema book (length seen + 1) want v)) told.0;
+                intact = told.1;
+              });
+        };
+        of_job = one-of-job old.contents.schema j place turned o (scan-call old.contents.schema) (scan-listed (reply.Opened v) tt) (λ t p e. scan-course (reply.Opened v) o of t p e);
       }
     where
       rows-of : (b : Book) → Has view old b → (k : Option Rows) → rows_at b v ≡ k → IsSomeAnd k (λ m. ⊤) → HasItsRows b o × TellsIntact o
@@ -281,80 +227,44 @@ module _ {S : Type 0} (view : S → View) (j : FiledJob) (place : ℕ) (want : W
       → ((b : Book) → Has view old b → Steps view new b place (call.Open want) r) → ((v : ℕ) → r ≡ reply.Opened v → ⊥) → IsOpening r
       → TellsShut old.closed r → new.closed ≡ old.closed → new.contents ≡ old.contents → Calm (view old.store) (view new.store)
       → faults_of view new ≡ faults_of view old
-      → Does view j place old new (faults_beside view old n) (faults_beside view new n) (record { turn = true; outcome = outcome.Turn r })
-  unopened-does old new r n turn none only tells closed contents calm faults =
-      let schema : new.contents.schema ≡ old.contents.schema = ap (λ c. c.schema) contents in
-      let stays = opening-stays old.closed place r only in
-      let shut : new.closed ≡ shut_after old.closed place r = closed ∙ sym stays in
-      let rests : IsIdle view new new = record { has = λ b h. h; calm = calm-self; contents = refl; closed = refl } in
-      record {
-        schema = schema;
-        honest = calm.honest;
-        rose = rose-beside (told_by (outcome.Turn r)) n 0 (faults_of view old) (faults_of view new)
-            (subst (λ k. RoseBy (told_by (outcome.Turn r)) (faults_of view old) k) (sym faults) (subst (λ k. RoseBy k (faults_of view old) (faults_of view old)) (sym (opening-tells r only)) rose-self));
-        goes = subst (λ c. GoesShut old.closed c (outcome.Turn r)) (sym shut) (goes-turn old.closed place r tells);
-        worn = opening-worn (IsWornOut new) r only;
-        stays = λ b has k h. same-worn old new contents closed k h;
-        had = inr (
-          refl,
-          record {
-            call = call.Open want;
-            reply = r;
-            calls = scan-call old.contents.schema;
-            listed = scan-listed r only;
-            course = λ t p e. scan-course r (outcome.Turn r) (scan-refused r none) t p e;
-            run = tt;
-            tells = tells;
-            shut = shut;
-            over = λ b seen here h. let step = turn (replay old.contents.schema b 1 seen) h.has in record {
-              may = step.0;
-              now = opened view old.contents.schema old new new b seen place (call.Open want) r schema here h step.1 calm closed rests;
-              rows = tt;
-              intact = opening-intact r only;
-            };
-          },
-        );
-      }
-    where
-      calm-self : Calm (view new.store) (view new.store)
-      calm-self = record { seen = refl; honest = refl; calls = omega arith; bytes = omega arith; moment = refl; now = λ image. (λ h. h, λ h. h); since = λ t image. (λ h. h, λ h. h) }
-
-      rose-self : RoseBy 0 (faults_of view old) (faults_of view old)
-      rose-self = omega arith
+      → Does view j place old new (faults_beside view old n) (faults_beside view new n) (record { parts = parts.Whole; outcome = outcome.Turn r })
+  unopened-does old new r n turn none only tells closed contents calm faults = record {
+    took = (record { part = part.Whole; call = call.Open want; reply = r }) ∷ [];
+    parts = refl;
+    acts = unopened-acts view place part.Whole want old new r n turn only tells closed contents calm faults;
+    of_job = one-of-job old.contents.schema j place (record { part = part.Whole; call = call.Open want; reply = r }) (outcome.Turn r)
+        (scan-call old.contents.schema) (scan-listed r only) (λ t p e. scan-course r (outcome.Turn r) (scan-refused r none) t p e);
+  }
 
 -- ---- counts of rows
 
 module _ {S : Type 0} (view : S → View) (j : FiledJob) (place : ℕ) (is : j.job.act ≡ act.Stat) where
   pub stat-does : (st : Shown S) (r : Reply) (n : ℕ) → ((b : Book) → Has view st b → r ≡ answer b call.Stat) → IsStat r → TellsShut st.closed r
-      → Does view j place st st (faults_beside view st n) (faults_beside view st n) (record { turn = true; outcome = outcome.Turn r })
+      → Does view j place st st (faults_beside view st n) (faults_beside view st n) (record { parts = parts.Whole; outcome = outcome.Turn r })
   stat-does st r n turn only tells =
       let stays = stat-stays st.closed place r only in
+      let turned : Took = record { part = part.Whole; call = call.Stat; reply = r } in
       record {
-        schema = refl;
-        honest = refl;
-        rose = subst (λ k. RoseBy k (faults_beside view st n) (faults_beside view st n)) (sym (stat-tells r only)) (rose-same (faults_of view st) n);
-        goes = subst (λ c. GoesShut st.closed c (outcome.Turn r)) stays (goes-turn st.closed place r tells);
-        worn = stat-worn (IsWornOut st) r only;
-        stays = λ b has k h. h;
-        had = inr (
-          refl,
-          record {
-            call = call.Stat;
-            reply = r;
-            calls = λ mine. ap (λ a. part_call a (load_in st.contents.schema j) (first_place mine) part.Whole) is;
-            listed = λ d. absurd (stat-listed r only d);
-            course = λ t p e. subst (λ a. HasTurns a (t ∷ []) (outcome.Turn r)) (sym is) (p, ap outcome.Turn (sym e));
-            run = tt;
-            tells = tells;
-            shut = sym stays;
-            over = λ b seen here h. record {
-              may = inl (turn (replay st.contents.schema b 1 seen) h.has);
-              now = counted b seen here h;
-              rows = tt;
-              intact = stat-intact r only;
-            };
-          },
-        );
+        took = turned ∷ [];
+        parts = refl;
+        acts = record {
+          schema = refl;
+          honest = refl;
+          rose = subst (λ k. RoseBy k (faults_beside view st n) (faults_beside view st n)) (sym (stat-tells r only)) (rose-same (faults_of view st) n);
+          goes = subst (λ c. GoesShut st.closed c (outcome.Turn r)) stays (goes-turn st.closed place r tells);
+          run = tt;
+          worn = stat-worn (IsWornOut st) r only;
+          stays = λ b has k h. h;
+          shuts = (tells, sym stays);
+          over = λ b seen here h. one-over st.contents.schema (IsAfter view st.contents.schema st) b seen place turned (outcome.Turn r) here (record {
+            may = inl (turn (replay st.contents.schema b 1 seen) h.has);
+            now = counted b seen here h;
+            rows = tt;
+            intact = stat-intact r only;
+          });
+        };
+        of_job = one-of-job st.contents.schema j place turned (outcome.Turn r) (λ mine. ap (λ a. part_call a (load_in st.contents.schema j) (first_place mine) part.Whole) is)
+            (λ d. absurd (stat-listed r only d)) (λ t p e. subst (λ a. HasTurns a (t ∷ []) (outcome.Turn r)) (sym is) (p, ap outcome.Turn (sym e)));
       }
     where
       counted : (b : Book) (seen : List Entry) → place ≡ length seen + 1 → IsAfter view st.contents.schema st b seen → IsAfter view st.contents.schema st b (seen ++ (call.Stat, r) ∷ [])

@@ -1,6 +1,6 @@
 -- One job after the other, over a tablet.
 use Rattle.std.specs.List.{AllByRecursion}
-use Rattle.std.proofs.Common.{◌≡◌, refl, ap, sym, subst, ◌∙◌, ◌⊎◌, inl, inr, ℕ, ◌+◌, ◌-◌, ◌^◌, ◌≤◌, min, arith, List, [], ◌∷◌, ◌++◌, length, Option, Some, None, Bool as Truth, true, false, cond, IsTrue, length-append}
+use Rattle.std.proofs.Common.{◌≡◌, refl, ap, sym, subst, ◌∙◌, ◌⊎◌, inl, inr, ℕ, zero, suc, ◌+◌, ◌*◌, ◌-◌, ◌^◌, ◌≤◌, min, arith, List, [], ◌∷◌, ◌++◌, length, Option, Some, None, IsTrue, length-append}
 use Rattle.dev_traits.specs.Causes.{Counts, RoseBy}
 use Rattle.dev_traits.specs.Image.{Image}
 use Rattle.dev_traits.specs.View.{Calm, View, EachImage}
@@ -9,27 +9,39 @@ use Rattle.pk_values.specs.Schemas.{Layout}
 use Rattle.pk_model.specs.declared.books.Book.{Book}
 use Rattle.pk_model.specs.Durable.{durable}
 use Rattle.script_text.specs.declared.outcomes.Item.{Item}
-use Rattle.script_text.specs.declared.outcomes.ItemPart.TheVariants.{Whole}
 use Rattle.script_text.specs.declared.outcomes.Outcome.{Outcome}
 use Rattle.reports.specs.declared.jobs.FiledJob.{FiledJob}
 use Rattle.reports.specs.Bearing.{AreBorneOut, TellsIntact}
-use Rattle.reports.specs.Shutting.{shut_after}
-use Rattle.pk_model.specs.Books.{Entry, replay}
+use Rattle.reports.specs.Shutting.{ShutsBy}
+use Rattle.pk_model.specs.Books.{Entry, IsLegal, replay}
 use Rattle.reports.specs.Plain.{PhasesRise}
 use Rattle.reports.specs.Progress.{HasCome, IsRun}
-use Rattle.reports.specs.Notes.{turns_in}
+use Rattle.reports.specs.Notes.{Note, turns_in}
+use Rattle.reports.specs.declared.turns.Turn.{Turn}
 use Rattle.reports.proofs.BearingLaws.{borne-more, borne-none}
 use Rattle.reports.proofs.PlainLaws.{outcomes-append}
-use Rattle.reports.proofs.ProgressLaws.{add-none, add-one-turn, come-none}
+use Rattle.reports.proofs.ProgressLaws.{add-note, come-none, seen-is}
 use Rattle.reports.proofs.ProgressRuns.{come-goes, come-runs}
 use Rattle.tablet_state.specs.Stands.{Stands}
 use Rattle.tablet_state.specs.State.{Has, Rests, Shown, faults_of, reader_faults}
-use Rattle.tablet_run.specs.Doing.{Does, HadBy, HadNone, HadOne, HasDone, IsAfter, ShutStands, faults_beside}
+use Rattle.tablet_run.specs.Doing.{Acts, AreOfJob, Does, HadBy, HasDone, IsAfter, entries_of, faults_beside, items_of, parts_of, turns_at}
 use Rattle.tablet_run.specs.Stores.{HasOpened, Opens, Runs}
-use Rattle.tablet_run.specs.declared.lanes.Done.{Done}
+use Rattle.tablet_run.specs.declared.done.Done.{Done}
+use Rattle.tablet_run.specs.declared.done.Parts.{Parts}
+use Rattle.tablet_run.specs.declared.done.Parts.TheVariants as parts
 use Rattle.tablet_run.specs.Worn.{BearsOut, IsWornOut, OnWorn}
 use Rattle.tablet_run.proofs.DoingFacts.{calm-shut}
+use Rattle.tablet_run.proofs.TookFacts.{shuts-then, turns-count, turns-items, turns-listed, turns-ordered, turns-own, turns-rise, turns-stood}
 use Rattle.tablet_run.proofs.WornFacts.{all-worn-go, number-borne, worn-goes}
+
+-- no job has more than three turns
+parts-few : (number : ℕ) (p : Parts) → length (items_of number (parts_of p)) ≤ 3
+parts-few number parts.None = omega arith
+parts-few number parts.Whole = omega arith
+parts-few number parts.First = omega arith
+parts-few number parts.FirstLast = omega arith
+parts-few number parts.FirstGaveUp = omega arith
+parts-few number parts.FirstLastGaveUp = omega arith
 
 module _ {S : Type 0} (view : S → View) (s : Layout) (opened : Shown S) where
   -- no job was done
@@ -51,15 +63,12 @@ module _ {S : Type 0} (view : S → View) (s : Layout) (opened : Shown S) where
       none-some : (p : ℕ) → None ≡ Some p → ⊥
       none-some p e = cc
 
-  abbrev noted : Truth → List Item → ℕ → List Item
-  noted turn order number = cond turn (order ++ (record { job = number; part = Whole }) ∷ []) order
-
   -- one job more
   pub done-next : (old new : Shown S) (start mid now place number : ℕ) (jobs : List FiledJob) (j : FiledJob) (order order_now : List Item) (outcomes outcomes_now : List Outcome) (d : Done)
       → HasDone view s opened old start mid jobs order outcomes
       → Does view j place old new mid now d
       → place ≡ length order + 1 → number ≡ length jobs + 1
-      → order_now ≡ noted d.turn order number → outcomes_now ≡ outcomes ++ d.outcome ∷ []
+      → order_now ≡ order ++ items_of number (parts_of d.parts) → outcomes_now ≡ outcomes ++ d.outcome ∷ []
       → HasDone view s opened new start now (jobs ++ j ∷ []) order_now outcomes_now
   done-next old new start mid now place number jobs j order order_now outcomes outcomes_now d h does here numbered order_is outcomes_are =
       let jobs_count = length-append jobs (j ∷ []) in
@@ -67,41 +76,73 @@ module _ {S : Type 0} (view : S → View) (s : Layout) (opened : Shown S) where
       let each = h.each in
       let sizes = ap length outcomes_are in
       record {
-        schema = does.schema ∙ h.schema;
-        honest = does.honest ∙ h.honest;
+        schema = acts.schema ∙ h.schema;
+        honest = acts.honest ∙ h.honest;
         come = come;
-        borne = subst (AreBorneOut start now new.closed) (sym outcomes_are) (borne-more start mid now old.closed new.closed outcomes d.outcome h.borne does.rose does.goes);
+        borne = subst (AreBorneOut start now new.closed) (sym outcomes_are) (borne-more start mid now old.closed new.closed outcomes d.outcome h.borne acts.rose acts.goes);
         ended = subst (AllByRecursion (λ o. OnWorn o (λ n. 2 ^ 62 ≤ n))) (sym outcomes_are)
-            (outcomes-append (λ o. OnWorn o (λ n. 2 ^ 62 ≤ n)) outcomes d.outcome h.ended (worn-goes (IsWornOut new) (λ n. 2 ^ 62 ≤ n) (λ n w. w.ended) d.outcome does.worn));
+            (outcomes-append (λ o. OnWorn o (λ n. 2 ^ 62 ≤ n)) outcomes d.outcome h.ended (worn-goes (IsWornOut new) (λ n. 2 ^ 62 ≤ n) (λ n w. w.ended) d.outcome acts.worn));
         worn = λ b has. let after = (h.come.over b has).1 in subst (AllByRecursion (λ o. OnWorn o (IsWornOut new))) (sym outcomes_are)
             (outcomes-append (λ o. OnWorn o (IsWornOut new)) outcomes d.outcome
-            (all-worn-go (IsWornOut old) (IsWornOut new) (does.stays (replay s b 1 h.come.seen) after.has) outcomes (h.worn b has)) does.worn);
+            (all-worn-go (IsWornOut old) (IsWornOut new) (acts.stays (replay s b 1 h.come.seen) after.has) outcomes (h.worn b has)) acts.worn);
         few = few;
         each = omega (arith, jobs_count, outs_count, each, sizes);
       }
     where
-      had : ((d.turn ≡ false) × HadNone view s j old new d.outcome) ⊎ ((d.turn ≡ true) × HadOne view s j place old new d.outcome)
-      had = subst (λ t. ((d.turn ≡ false) × HadNone view t j old new d.outcome) ⊎ ((d.turn ≡ true) × HadOne view t j place old new d.outcome)) h.schema does.had
+      acts : Acts view s place old new mid now does.took d.outcome
+      acts = subst (λ t. Acts view t place old new mid now does.took d.outcome) h.schema does.acts
+
+      of_job : AreOfJob s j place does.took d.outcome
+      of_job = subst (λ t. AreOfJob t j place does.took d.outcome) h.schema does.of_job
+
+      seen : List Entry
+      seen = h.come.seen
+
+      -- the job's number, and the place of its first turn
+      here_is : place ≡ suc (length seen)
+      here_is = let count = seen-is s (HadBy view opened) (IsAfter view s old) old.closed jobs order outcomes h.come in omega (arith, here, count)
+
+      mine : List Turn
+      mine = turns_at number place does.took
+
+      noted : Note
+      noted = record { job = number; turns = mine; outcome = d.outcome }
 
       come : HasCome s (HadBy view opened) (IsAfter view s new) new.closed (jobs ++ j ∷ []) order_now outcomes_now
-      come = elim had [
-        | inl none ↦ subst (λ c. HasCome s (HadBy view opened) (IsAfter view s new) c (jobs ++ j ∷ []) order_now outcomes_now) (sym none.1.shut)
-            (add-none s (HadBy view opened) (IsAfter view s old) old.closed jobs order outcomes h.come (IsAfter view s new) j d.outcome order_now outcomes_now none.1.course none.1.run none.1.over
-            (order_is ∙ ap (λ t. noted t order number) none.0) outcomes_are)
-        | inr one ↦ let turn = one.1 in
-            add-one-turn s (HadBy view opened) (IsAfter view s old) old.closed jobs order outcomes h.come (IsAfter view s new) new.closed j Whole turn.call turn.reply d.outcome order_now outcomes_now
-            turn.calls turn.listed turn.course turn.run turn.tells
-            (turn.shut ∙ ap (λ n. shut_after old.closed n turn.reply) here)
-            (λ b seen count after. turn.over b seen (omega (arith, here, count)) after)
-            (order_is ∙ ap (λ t. noted t order number) one.0 ∙ ap (λ (n : ℕ). order ++ (record { job = n; part = Whole }) ∷ []) numbered) outcomes_are
-      ]
+      come =
+          let next_place : 1 + length seen ≡ place = omega (arith, here_is) in
+          let at : place ≡ length seen + 1 = omega (arith, here_is) in
+          add-note s (HadBy view opened) (IsAfter view s old) old.closed jobs order outcomes h.come (IsAfter view s new) new.closed j noted (entries_of does.took) order_now outcomes_now
+          numbered
+          (record {
+            own = turns-own number place does.took;
+            rise = turns-rise number 0 place does.took (omega (arith, here_is));
+            stood = turns-stood s j mine number place seen does.took here_is (of_job.calls number);
+            listed = turns-listed j number place does.took of_job.listed;
+            course = of_job.course number;
+          })
+          (shuts-then None old.closed new.closed 1 seen (entries_of does.took) h.come.shuts (subst (λ n. ShutsBy old.closed n (entries_of does.took) new.closed) (sym next_place) acts.shuts))
+          (λ b after. let over = acts.over b seen at after in (
+            subst (λ n. IsLegal s (replay s b 1 seen) n (entries_of does.took)) (sym next_place) over.legal,
+            over.rows number,
+            over.intact,
+            over.now,
+          ))
+          (turns-rise number (length seen) place does.took (omega (arith, here_is)))
+          (turns-ordered number place does.took)
+          (turns-count number place does.took)
+          acts.run
+          (order_is ∙ ap (λ is. order ++ is) (sym (turns-items number place does.took ∙ ap (items_of number) does.parts)))
+          outcomes_are
 
-      few : length order_now ≤ length (jobs ++ j ∷ [])
-      few = by d.turn order_is
-        where
-          by : (t : Truth) → order_now ≡ noted t order number → length order_now ≤ length (jobs ++ j ∷ [])
-          by true e = let jobs_count = length-append jobs (j ∷ []) in let count = length-append order ((record { job = number; part = Whole }) ∷ []) in let size = ap length e in let old_few = h.few in omega (arith, jobs_count, count, size, old_few)
-          by false e = let jobs_count = length-append jobs (j ∷ []) in let size = ap length e in let old_few = h.few in omega (arith, jobs_count, size, old_few)
+      few : length order_now ≤ 3 * length (jobs ++ j ∷ [])
+      few =
+          let jobs_count = length-append jobs (j ∷ []) in
+          let count = length-append order (items_of number (parts_of d.parts)) in
+          let three = parts-few number d.parts in
+          let size = ap length order_is in
+          let old_few = h.few in
+          omega (arith, jobs_count, count, three, size, old_few)
 
 -- ---- the store that is left
 

@@ -24,8 +24,10 @@ use Rattle.core_compact.specs.Expiring.{IsExpiry, IsRaise}
 use Rattle.tablet_state.specs.Contents.{current_number, worn_of}
 use Rattle.tablet_state.specs.Floors.{floor_answer, floor_refusal, raised_contents, worn_answer}
 use Rattle.tablet_state.specs.State.{Has, Rests, Shown, StandsThroughout, Steps, faults_of}
-use Rattle.tablet_run.specs.Doing.{Does, faults_beside}
+use Rattle.tablet_run.specs.Doing.{Does, IsAfter, Took, faults_beside}
 use Rattle.tablet_run.specs.Worn.{IsWornOut}
+use Rattle.tablet_run.specs.declared.done.Parts.TheVariants as parts
+use Rattle.tablet_run.proofs.ActFacts.{one-of-job, one-over}
 use Rattle.tablet_run.proofs.DoingFacts.{committed, goes-turn, told-turn}
 use Rattle.tablet_run.proofs.LaneFacts.{same-shut, tells-shut}
 use Rattle.tablet_run.proofs.WornFacts.{load-worn, reaches-worn}
@@ -163,37 +165,36 @@ module _ {S : Type 0} (view : S → View) (old new : Shown S) (v : ℕ) (r : Rep
       → ((b : Book) → Has view old b → old.closed ≡ None → StandsThroughout old.contents.schema b place (call.Expire v) (view old.store) (view new.store))
       → IsExpiry r → told.TellsShut old.closed r → new.closed ≡ told.shut_after old.closed place r
       → (view new.store).is_honest ≡ (view old.store).is_honest → RoseBy (told_by_reply r) (faults_of view old) (faults_of view new)
-      → Does view j place old new (faults_beside view old n) (faults_beside view new n) (record { turn = true; outcome = outcome.Turn r })
+      → Does view j place old new (faults_beside view old n) (faults_beside view new n) (record { parts = parts.Whole; outcome = outcome.Turn r })
   expire-does j place n is floor memory same turn moment only tells shut honest rose =
+      let s = old.contents.schema in
       let schema = expiry-schema floor memory same in
       let own_tells = tells-shut old.closed r tells in
       let own_shut = shut ∙ same-shut old.closed place r in
+      let turned : Took = record { part = part.Whole; call = call.Expire v; reply = r } in
       record {
-        schema = schema;
-        honest = honest;
-        rose = rose-beside (told_by (outcome.Turn r)) n 0 (faults_of view old) (faults_of view new)
-            (subst (λ k. RoseBy k (faults_of view old) (faults_of view new)) (sym (told-turn r)) rose);
-        goes = subst (λ c. GoesShut old.closed c (outcome.Turn r)) (sym own_shut) (goes-turn old.closed place r own_tells);
-        worn = load-worn old new r own_tells expiry-worn;
-        stays = λ b has k h. expiry-stays k h;
-        had = inr (
-          refl,
-          record {
-            call = call.Expire v;
-            reply = r;
-            calls = λ mine. ap (λ a. part_call a (load_in old.contents.schema j) (first_place mine) part.Whole) is;
-            listed = λ d. subst (λ a. PartMayGet a part.Whole r) (sym is) (expiry-listed v r only d);
-            course = λ t p e. subst (λ a. HasTurns a (t ∷ []) (outcome.Turn r)) (sym is) (p, ap outcome.Turn (sym e));
-            run = tt;
-            tells = own_tells;
-            shut = own_shut;
-            over = λ b seen here h. let step = turn (replay old.contents.schema b 1 seen) h.has in record {
-              may = step.0;
-              now = committed view old.contents.schema old new b seen place (call.Expire v) r refl schema here h step.1
-                  (moment (replay old.contents.schema b 1 seen) h.has) own_shut expiry-closed;
-              rows = tt;
-              intact = expiry-intact r only;
-            };
-          },
-        );
+        took = turned ∷ [];
+        parts = refl;
+        acts = record {
+          schema = schema;
+          honest = honest;
+          rose = rose-beside (told_by (outcome.Turn r)) n 0 (faults_of view old) (faults_of view new)
+              (subst (λ k. RoseBy k (faults_of view old) (faults_of view new)) (sym (told-turn r)) rose);
+          goes = subst (λ c. GoesShut old.closed c (outcome.Turn r)) (sym own_shut) (goes-turn old.closed place r own_tells);
+          run = tt;
+          worn = load-worn old new r own_tells expiry-worn;
+          stays = λ b has k h. expiry-stays k h;
+          shuts = (own_tells, own_shut);
+          over = λ b seen here h. let step = turn (replay s b 1 seen) h.has in
+              one-over s (IsAfter view s new) b seen place turned (outcome.Turn r) here (record {
+                may = step.0;
+                now = committed view s old new b seen place (call.Expire v) r refl schema here h step.1
+                    (moment (replay s b 1 seen) h.has) own_shut expiry-closed;
+                rows = tt;
+                intact = expiry-intact r only;
+              });
+        };
+        of_job = one-of-job s j place turned (outcome.Turn r) (λ mine. ap (λ a. part_call a (load_in s j) (first_place mine) part.Whole) is)
+            (λ d. subst (λ a. PartMayGet a part.Whole r) (sym is) (expiry-listed v r only d))
+            (λ t p e. subst (λ a. HasTurns a (t ∷ []) (outcome.Turn r)) (sym is) (p, ap outcome.Turn (sym e)));
       }

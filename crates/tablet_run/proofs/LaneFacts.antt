@@ -33,6 +33,7 @@ use Rattle.reports.specs.Bearing.{TellsIntact, told_by}
 use Rattle.tablet_state.specs.Contents.{worn_of}
 use Rattle.tablet_state.specs.State.{Has, Rests, Shown, StandsThroughout, Steps, faults_of}
 use Rattle.tablet_run.specs.Doing.{Does, faults_beside}
+use Rattle.tablet_run.specs.declared.done.Parts.TheVariants as parts
 use Rattle.tablet_run.proofs.DoingLaws.{publish-does, unmade-does}
 use Rattle.tablet_run.specs.Scanning.{IsIdle, RowsTold}
 
@@ -144,7 +145,7 @@ pub published-does : {S : Type 0} (view : S → View) (j : FiledJob) (place : �
     → RoseBy (told_by_reply r) (faults_of view old) (faults_of view new)
     → ((k : ℕ) → r ≡ reply.Worn k → (worn_of old.contents ≡ Some k) × (new ≡ old))
     → ((k : ℕ) → old.closed ≡ None → worn_of old.contents ≡ Some k → r ≡ reply.Worn k)
-    → Does view j place old new (faults_beside view old n) (faults_beside view new m) (record { turn = true; outcome = outcome.Turn r })
+    → Does view j place old new (faults_beside view old n) (faults_beside view new m) (record { parts = parts.Whole; outcome = outcome.Turn r })
 published-does view j place name is old new load given r n m read same count turn moment intact tells shut stays schema honest rose worn stays_worn =
     publish-does view j place name is old new load r n m read count
     (subst (λ l. (b : Book) → Has view old b → Steps view new b place (call.Load l) r) same turn)
@@ -155,9 +156,9 @@ published-does view j place name is old new load given r n m read same count tur
 pub unmade : {S : Type 0} (view : S → View) (j : FiledJob) (place : ℕ) (name : List ℕ) → j.job.act ≡ act.Load name
     → (old : Shown S) (load : Load) (f : MakeFault) (told : OutsideFault) (n m : ℕ) → load_in old.contents.schema j ≡ Ok load → told ≡ outside_of_make f
     → (f ≡ make.StoreFault → Counts 1 n m) → ((f ≡ make.StoreFault → ⊥) → m ≡ n)
-    → Does view j place old old (faults_beside view old n) (faults_beside view old m) (record { turn = false; outcome = outcome.Outside told })
+    → Does view j place old old (faults_beside view old n) (faults_beside view old m) (record { parts = parts.None; outcome = outcome.Outside told })
 unmade view j place name is old load f told n m read same counts stays =
-    subst (λ t. Does view j place old old (faults_beside view old n) (faults_beside view old m) (record { turn = false; outcome = outcome.Outside t })) (sym same)
+    subst (λ t. Does view j place old old (faults_beside view old n) (faults_beside view old m) (record { parts = parts.None; outcome = outcome.Outside t })) (sym same)
     (unmade-does view j place name is old load f n m read counts stays)
 
 pub well-made : {T : Type 0} (x : T) (n m : ℕ) → HasMakeCause n m (Ok x) → m ≡ n

@@ -42,10 +42,10 @@ pub record HasJobs (files : Option Files) (words : List (List ℕ)) (s : Layout)
   pub table_is : table_of table ≡ Ok s
   pub script_is : script_of script ≡ Ok (record { jobs = jobs })
 
--- loads of all columns, scans, expiries and counts in lane 1 are built
+-- loads of all columns or of some, scans, expiries and counts in lane 1 are built
 abbrev pub is_built_act : JobAct → Truth
 is_built_act (act.Load file) = true
-is_built_act (act.Partial file) = false
+is_built_act (act.Partial file) = true
 is_built_act (act.Scan want) = true
 is_built_act act.Compact = false
 is_built_act (act.Expire v) = true

@@ -1,5 +1,5 @@
 -- What the jobs of one lane do to a tablet over a store, one after the other.
-use Rattle.std.specs.Prelude.{◌≡◌, ◌⊎◌, ℕ, ◌+◌, ◌-◌, ◌^◌, ◌≤◌, min, List, [], ◌∷◌, ◌++◌, length, map, Option, Some, None, true, false, IsSomeAnd}
+use Rattle.std.specs.Prelude.{◌≡◌, ℕ, ◌+◌, ◌-◌, ◌*◌, ◌^◌, ◌≤◌, min, List, [], ◌∷◌, ◌++◌, length, map, Option, Some, IsSomeAnd}
 use Rattle.std.specs.List.{AllByRecursion}
 use Rattle.dev_traits.specs.Causes.{RoseBy}
 use Rattle.dev_traits.specs.View.{View, EachImage}
@@ -7,10 +7,10 @@ use Rattle.pk_values.specs.Schemas.{Layout}
 use Rattle.pk_model.specs.declared.books.Book.{Book}
 use Rattle.pk_model.specs.declared.calls.Call.{Call}
 use Rattle.pk_model.specs.declared.calls.Reply.{Reply}
-use Rattle.pk_model.specs.Books.{Entry, IsOfDevice, replay}
-use Rattle.pk_model.specs.Durable.{durable}
+use Rattle.pk_model.specs.Books.{Entry, IsLegal, IsOfDevice, replay}
 use Rattle.script_text.specs.declared.outcomes.Item.{Item}
-use Rattle.script_text.specs.declared.outcomes.ItemPart.TheVariants.{Whole}
+use Rattle.script_text.specs.declared.outcomes.ItemPart.{ItemPart}
+use Rattle.script_text.specs.declared.outcomes.ItemPart.TheVariants as part
 use Rattle.script_text.specs.declared.outcomes.Outcome.{Outcome}
 use Rattle.reports.specs.declared.jobs.FiledJob.{FiledJob}
 use Rattle.reports.specs.declared.turns.Turn.{Turn}
@@ -18,14 +18,15 @@ use Rattle.reports.specs.Bearing.{AreBorneOut, GoesShut, TellsIntact, told_by}
 use Rattle.reports.specs.Courses.{IsCourse}
 use Rattle.reports.specs.Jobs.{PartMayGet, call_of}
 use Rattle.reports.specs.Notes.{entry_at}
-use Rattle.reports.specs.Progress.{HasCome, IsRun, Turns}
-use Rattle.reports.specs.Reports.{GoesBy, HasRun, book_at, item_of}
-use Rattle.reports.specs.Shutting.{ShutsBy, TellsShut, shut_after}
-use Rattle.tablet_state.specs.Stands.{Stands}
+use Rattle.reports.specs.Progress.{HasCome, IsRun, Over}
+use Rattle.reports.specs.Reports.{TellsTheRows, book_at}
+use Rattle.reports.specs.Shutting.{ShutsBy}
 use Rattle.tablet_state.specs.State.{Has, Shown, faults_of}
 use Rattle.tablet_state.specs.Turns.{StandsEither}
 use Rattle.tablet_run.specs.Worn.{IsWornOut, OnWorn}
-use Rattle.tablet_run.specs.declared.lanes.Done.{Done}
+use Rattle.tablet_run.specs.declared.done.Done.{Done}
+use Rattle.tablet_run.specs.declared.done.Parts.{Parts}
+use Rattle.tablet_run.specs.declared.done.Parts.TheVariants as parts
 
 -- ---- a tablet after a history
 
@@ -42,38 +43,72 @@ pub record IsAfter {S : Type 0} (view : S → View) (s : Layout) (st : Shown S) 
 abbrev pub faults_beside : {S : Type 0} → (S → View) → Shown S → ℕ → ℕ
 faults_beside view st maker = min (faults_of view st + maker) (2 ^ 64 - 1)
 
--- ---- a job
+-- ---- turns
 
--- a job had no turn
-pub record HadNone {S : Type 0} (view : S → View) (s : Layout) (j : FiledJob) (old new : Shown S) (o : Outcome) : Type 0 where
-  pub course : IsCourse s j [] o
-  pub run : IsRun o
-  pub shut : new.closed ≡ old.closed
-  pub over : (b : Book) (seen : List Entry) → IsAfter view s old b seen → IsAfter view s new b seen × TellsIntact o
-
--- a job had one turn, at this place
-pub record HadOne {S : Type 0} (view : S → View) (s : Layout) (j : FiledJob) (place : ℕ) (old new : Shown S) (o : Outcome) : Type 0 where
+-- a turn of a job: which part of it, its call, and the reply
+pub record Took : Type 0 where
+  pub part : ItemPart
   pub call : Call
   pub reply : Reply
-  pub calls : (mine : List Turn) → call_of s j mine Whole ≡ Some call
-  pub listed : IsOfDevice reply → PartMayGet j.job.act Whole reply
-  pub course : (t : Turn) → t.part ≡ Whole → t.reply ≡ reply → IsCourse s j (t ∷ []) o
-  pub run : IsRun o
-  pub tells : TellsShut old.closed reply
-  pub shut : new.closed ≡ shut_after old.closed place reply
-  pub over : (b : Book) (seen : List Entry) → place ≡ length seen + 1 → IsAfter view s old b seen → Turns s (IsAfter view s new) b seen call reply o
 
--- What a job does at the next place: the schema stays, and whether the store is honest; each fault that it tells was counted; a number at its end
--- that it tells is the tablet's, and a tablet that has one stays so; and it had one turn or none.
-pub record Does {S : Type 0} (view : S → View) (j : FiledJob) (place : ℕ) (old new : Shown S) (before now : ℕ) (d : Done) : Type 0 where
+-- the entries of turns
+abbrev pub entries_of : List Took → List Entry
+entries_of took = map (λ (t : Took). (t.call, t.reply)) took
+
+-- so these are the turns of a job with this number, the first of them at this place
+abbrev pub turns_at : ℕ → ℕ → List Took → List Turn
+turns_at number place [] = []
+turns_at number place (t ∷ took) = record { job = number; part = t.part; place = place; reply = t.reply } ∷ turns_at number (place + 1) took
+
+-- what turns at the places from here on do over a book, after entries that left it so: each reply is one that the book may give, the tablet is
+-- then what it is after these entries, too, rows that are told are the book's, and no damage is told
+pub record ActsOver (s : Layout) (Now : Over) (b : Book) (seen : List Entry) (place : ℕ) (took : List Took) (o : Outcome) : Type 0 where
+  pub legal : IsLegal s (replay s b 1 seen) place (entries_of took)
+  pub now : Now b (seen ++ entries_of took)
+  pub rows : (number : ℕ) → TellsTheRows (book_at s b (seen ++ entries_of took)) (turns_at number place took) o
+  pub intact : TellsIntact o
+
+-- What turns at the places from here on do to a tablet, and what is told of them: the schema stays, and whether the store is honest; each fault that
+-- is told was counted; each reply tells that the tablet was closed exactly where it was; a number at its end that is told is the tablet's, and a
+-- tablet that has one stays so.
+pub record Acts {S : Type 0} (view : S → View) (s : Layout) (place : ℕ) (old new : Shown S) (before now : ℕ) (took : List Took) (o : Outcome) : Type 0 where
   pub schema : new.contents.schema ≡ old.contents.schema
   pub honest : (view new.store).is_honest ≡ (view old.store).is_honest
-  pub rose : RoseBy (told_by d.outcome) before now
-  pub goes : GoesShut old.closed new.closed d.outcome
-  pub worn : OnWorn d.outcome (IsWornOut new)
+  pub rose : RoseBy (told_by o) before now
+  pub goes : GoesShut old.closed new.closed o
+  pub run : IsRun o
+  pub worn : OnWorn o (IsWornOut new)
   pub stays : (b : Book) → Has view old b → (n : ℕ) → IsWornOut old n → IsWornOut new n
-  pub had : ((d.turn ≡ false) × HadNone view old.contents.schema j old new d.outcome)
-      ⊎ ((d.turn ≡ true) × HadOne view old.contents.schema j place old new d.outcome)
+  pub shuts : ShutsBy old.closed place (entries_of took) new.closed
+  pub over : (b : Book) (seen : List Entry) → place ≡ length seen + 1 → IsAfter view s old b seen → ActsOver s (IsAfter view s new) b seen place took o
+
+-- ---- a job
+
+-- they are a course of this job, and what became of it: each has the call of its part, and a device gave it only what it may
+pub record AreOfJob (s : Layout) (j : FiledJob) (place : ℕ) (took : List Took) (o : Outcome) : Type 0 where
+  pub calls : (number : ℕ) → AllByRecursion (λ (t : Took). call_of s j (turns_at number place took) t.part ≡ Some t.call) took
+  pub listed : AllByRecursion (λ (t : Took). IsOfDevice t.reply → PartMayGet j.job.act t.part t.reply) took
+  pub course : (number : ℕ) → IsCourse s j (turns_at number place took) o
+
+-- the parts of a job that had turns
+abbrev pub parts_of : Parts → List ItemPart
+parts_of parts.None = []
+parts_of parts.Whole = part.Whole ∷ []
+parts_of parts.First = part.First ∷ []
+parts_of parts.FirstLast = part.First ∷ part.Last ∷ []
+parts_of parts.FirstGaveUp = part.First ∷ part.GaveUp ∷ []
+parts_of parts.FirstLastGaveUp = part.First ∷ part.Last ∷ part.GaveUp ∷ []
+
+-- the items of a job's parts
+abbrev pub items_of : ℕ → List ItemPart → List Item
+items_of number ps = map (λ (p : ItemPart). record { job = number; part = p }) ps
+
+-- What a job does from the next place on.
+pub record Does {S : Type 0} (view : S → View) (j : FiledJob) (place : ℕ) (old new : Shown S) (before now : ℕ) (d : Done) : Type 0 where
+  pub took : List Took
+  pub parts : map (λ (t : Took). t.part) took ≡ parts_of d.parts
+  pub acts : Acts view old.contents.schema place old new before now took d.outcome
+  pub of_job : AreOfJob old.contents.schema j place took d.outcome
 
 -- ---- all jobs
 
@@ -89,5 +124,5 @@ pub record HasDone {S : Type 0} (view : S → View) (s : Layout) (opened now : S
   pub borne : AreBorneOut before count now.closed outcomes
   pub ended : AllByRecursion (λ o. OnWorn o (λ n. 2 ^ 62 ≤ n)) outcomes
   pub worn : (b : Book) → Has view opened b → AllByRecursion (λ o. OnWorn o (IsWornOut now)) outcomes
-  pub few : length order ≤ length jobs
+  pub few : length order ≤ 3 * length jobs
   pub each : length outcomes ≡ length jobs

@@ -3,7 +3,7 @@ use Rattle.std.specs.Prelude.{◌≡◌, ◌≢◌, ◌⊎◌, ℕ, ◌^◌, ◌
 use Rattle.std.specs.List.{AllByRecursion}
 use Rattle.dev_traits.specs.Causes.{RoseBy}
 use Rattle.dev_traits.specs.Image.{Image}
-use Rattle.dev_traits.specs.View.{View, Calm, EachImage}
+use Rattle.dev_traits.specs.View.{View, Calm, EachImage, Told}
 use Rattle.pk_values.specs.Schemas.{Layout}
 use Rattle.pk_model.specs.declared.books.Book.{Book}
 use Rattle.pk_model.specs.Books.{Entry, new_book, replay}
@@ -17,6 +17,7 @@ use Rattle.reports.specs.Progress.{IsRun}
 use Rattle.reports.specs.Reports.{GoesBy, HasRun, item_of}
 use Rattle.reports.specs.Shutting.{ShutsBy}
 use Rattle.version_journal.specs.Images.{HasNoRecord}
+use Rattle.core_recover.specs.Damages.{IsDamageOf}
 use Rattle.tablet_state.specs.Stands.{Stands}
 use Rattle.tablet_state.specs.State.{Has, Shown, faults_of}
 use Rattle.tablet_run.specs.Doing.{ShutStands}
@@ -90,10 +91,10 @@ abbrev pub StandsForNone : View → Type 0
 StandsForNone view = ((image : Image) → ReadsAs view image → HasNoRecord image → ⊥) × ((image : Image) (t : Layout) (b : Book) → ReadsAs view image → Stands t b image → ⊥)
 
 -- Why the table of this schema isn't opened in a store, or isn't used: the store failed, and counted it; it is damaged, which no honest store is that
--- is empty or stands for a book; its table is another one; or memory was wanting. It is kept.
+-- is empty or stands for a book, and where it tells how it reads, this is damage of it; its table is another one; or memory was wanting. It is kept.
 abbrev pub Refuses : Layout → View → View → Cause → Type 0
 Refuses s old new cause.Store = IsKept s old new × RoseBy 1 old.faults new.faults
-Refuses s old new (cause.Damaged d) = IsKept s old new × StandsForNone old
+Refuses s old new (cause.Damaged d) = IsKept s old new × StandsForNone old × Told old (λ image. IsDamageOf image d)
 Refuses s old new (cause.OtherSchema t) = IsKept s old new × (t.schema ≢ s) × ((image : Image) → ReadsAs old image → HasNoRecord image → ⊥) × IsOfTable old t.schema
 Refuses s old new cause.Memory = IsKept s old new
 Refuses s old new c = ⊥

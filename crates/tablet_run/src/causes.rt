@@ -66,8 +66,8 @@ pub enum Cause {
     /// A line of the script is wrong.
     #[error("{0}")]
     Script(ScriptFault),
-    /// The job of this number, counted from 1, is not built yet: it is no `load`, `scan` or `stat`, or not in lane 1.
-    #[error("job {0} is of a kind that is not built yet: `load`, `scan` and `stat` are, in lane 1")]
+    /// The job of this number, counted from 1, is not built yet: it is a `compact`, or not in lane 1.
+    #[error("job {0} is not built yet: `load`, `partial`, `scan`, `expire` and `stat` are, in lane 1")]
     Unbuilt(u64),
     /// The store's table is not the one that the words name, but this one.
     #[error("the store holds another table than the one of the table's file")]

@@ -137,8 +137,9 @@ fn is_built_act(act: &JobAct) -> bool
     ensures { result ≡ is_built_act act.now }
 {
     match act {
-        JobAct::Load(_) | JobAct::Scan(_) | JobAct::Expire(_) | JobAct::Stat => true,
-        JobAct::Partial(_) | JobAct::Compact => false,
+        JobAct::Load(_) | JobAct::Partial(_) | JobAct::Scan(_) | JobAct::Expire(_) | JobAct::Stat =>
+            true,
+        JobAct::Compact => false,
     }
 }
 

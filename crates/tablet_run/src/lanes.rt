@@ -1,5 +1,4 @@
-ghost use Rattle.std.specs.Prelude.{◌≡◌, ◌≤◌, ◌<◌, ◌+◌, ◌^◌, ◌++◌, ◌∷◌, [], ℕ, List};
-ghost use Rattle.std.specs.Prelude.{length, Ok, IfOk, IfErr, OnErr, None, true, if◌then◌else◌, vec_len, vec_capacity};
+ghost use Rattle.std.specs.Prelude.{◌≡◌, ◌≤◌, ℕ, List, length, Ok, IfOk, OnErr, None, true};
 ghost use Rattle.std.specs.FinMap.{len, values};
 ghost use Rattle.std.specs.List.{AllByRecursion};
 ghost use Rattle.dev_traits.specs.Causes.{RoseBy};
@@ -17,6 +16,8 @@ ghost use Rattle.tablet_run.specs.Asks.{is_built};
 ghost use Rattle.tablet_run.specs.Doing.{Does, HasDone, faults_beside};
 ghost use Rattle.tablet_run.specs.Scanning.{IsIdle, RowsTold};
 
+use crate::done::{Done, Parts, note};
+use crate::partials::partial_file;
 use crate::scanning::text_of_rows;
 use core_compact::expire;
 use core_publish::{open_version, prepare, publish, stat};
@@ -25,17 +26,10 @@ use load_csv::read_load;
 use pk_model::{Load, Want};
 use pk_values::Items;
 use reports::FiledJob;
-use script_text::{Item, ItemPart, JobAct, Outcome};
+use script_text::{Item, JobAct, Outcome};
 use snapshot_scan::{Scan, Snapshot};
 use std::alloc::{AllocError, Global};
 use tablet_state::State;
-
-/// What became of a job, and whether it had a turn.
-#[derive(Drop)]
-pub struct Done {
-    pub turn: bool,
-    pub outcome: Outcome,
-}
 
 // Prepares a load, and publishes it in the turn at a place.
 fn publish_load<S: Store>(
@@ -55,11 +49,11 @@ fn publish_load<S: Store>(
     let _valid = state.schema().columns();
     match prepare(alloc, maker, state.schema(), load) {
         Ok(mut prepared) => Done {
-            turn: true,
+            parts: Parts::Whole,
             outcome: Outcome::Turn(publish(alloc, state, &mut prepared, place)),
         },
         Err(fault) => Done {
-            turn: false,
+            parts: Parts::None,
             outcome: Outcome::Outside(OutsideFault::from(fault)),
         },
     }
@@ -81,7 +75,7 @@ fn load_file<S: Store>(
     match read_load(alloc, state.schema(), file, false) {
         Ok(load) => publish_load(alloc, state, maker, load, place),
         Err(fault) => Done {
-            turn: false,
+            parts: Parts::None,
             outcome: Outcome::Load(fault),
         },
     }
@@ -144,11 +138,11 @@ fn scan_version<S: Store>(alloc: Global, state: &mut State<S>, want: Want, place
     let (reply, opened) = open_version(alloc, state, want);
     match opened {
         Some(snapshot) => Done {
-            turn: true,
+            parts: Parts::Whole,
             outcome: rows_told(alloc, state, snapshot),
         },
         None => Done {
-            turn: true,
+            parts: Parts::Whole,
             outcome: Outcome::Turn(reply),
         },
     }
@@ -161,7 +155,7 @@ fn expire_versions<S: Store>(alloc: Global, state: &mut State<S>, v: u64, place:
         (faults_beside S.view state.new n) result }
 {
     Done {
-        turn: true,
+        parts: Parts::Whole,
         outcome: Outcome::Turn(expire(alloc, state, v, place)),
     }
 }
@@ -173,7 +167,7 @@ fn count_rows<S: Store>(state: &State<S>) -> Done
         (faults_beside S.view state.now n) result }
 {
     Done {
-        turn: true,
+        parts: Parts::Whole,
         outcome: Outcome::Turn(stat(state)),
     }
 }
@@ -188,37 +182,23 @@ fn do_job<S: Store>(
 ) -> Done
     requires built { is_built job.now.job ≡ true }
     requires within { HasFewBytes job.now }
+    requires few { place ≤ 12288 }
     ensures { Does S.view job.now place state.old state.new
         (faults_beside S.view state.old (S.Maker.view maker.old).faults)
         (faults_beside S.view state.new (S.Maker.view maker.new).faults) result }
 {
     match &job.job.act {
         JobAct::Load(_) => load_file(alloc, state, maker, job.file.as_slice(), place),
+        JobAct::Partial(_) => partial_file(alloc, state, maker, job.file.as_slice(), place),
         JobAct::Scan(want) => scan_version(alloc, state, *want, place),
         JobAct::Expire(v) => expire_versions(alloc, state, *v, place),
         JobAct::Stat => count_rows(state),
-        JobAct::Partial(_) | JobAct::Compact => unreachable!(),
+        JobAct::Compact => unreachable!(),
     }
 }
 
-// Notes the turn of a job, if it had one, and what became of it. There is room for both.
-fn note(order: &mut Vec<Item>, outcomes: &mut Vec<Outcome>, number: u32, done: Done)
-    requires order_room { vec_len order.old < vec_capacity order.old }
-    requires outcomes_room { vec_len outcomes.old < vec_capacity outcomes.old }
-    ensures order { order.new.items ≡ (if done.turn
-        then order.old.items ++ (record { job = number; part = ItemPart.Whole }) ∷ [] else order.old.items) }
-    ensures outcomes { outcomes.new.items ≡ outcomes.old.items ++ done.outcome ∷ [] }
-    ensures order_kept { vec_capacity order.new ≡ vec_capacity order.old }
-    ensures outcomes_kept { vec_capacity outcomes.new ≡ vec_capacity outcomes.old }
-{
-    if done.turn {
-        order.push_reserved(Item {
-            job: number,
-            part: ItemPart::Whole,
-        });
-    }
-    outcomes.push_reserved(done.outcome);
-}
+/// The most turns that a job has.
+const MOST_TURNS: usize = 3;
 
 /// What jobs told: the turns in their order, and what became of each job.
 #[derive(Drop)]
@@ -249,7 +229,7 @@ pub fn run_lane<S: Store>(
     ensures state { OnErr result (state.new ≡ state.old) }
     ensures maker { OnErr result (maker.new ≡ maker.old) }
 {
-    let mut order = Vec::with_capacity(alloc, jobs.len())?;
+    let mut order = Vec::with_capacity(alloc, jobs.len() * MOST_TURNS)?;
     let mut outcomes = Vec::with_capacity(alloc, jobs.len())?;
     for i in 0..jobs.len() {
         let place = order.len() as u64 + 1;

@@ -2,10 +2,12 @@
 #![tactic(auto)]
 
 mod causes;
+mod done;
 mod inputs;
 mod lanes;
 mod laws;
 mod opening;
+mod partials;
 mod runs;
 mod scanning;
 mod streams;

@@ -12,3 +12,6 @@ returns-in-Stat g c = c.count_rows.ensures c.args.job.now _ c.args.place c.in-St
 
 pub returns-in-Expire : goal.returns-in-Expire
 returns-in-Expire g c = c.expire_versions.ensures c.args.job.now _ c.in-Expire.is
+
+pub returns-in-Partial : goal.returns-in-Partial
+returns-in-Partial g c = c.partial_file.ensures c.args.job.now _ c.in-Partial.is (sym c.as_slice-in-Partial.ensures)

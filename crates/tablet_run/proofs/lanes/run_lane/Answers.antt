@@ -9,6 +9,7 @@ use Rattle.tablet_run.proofs.lanes.run_lane.Goals as goal
 pub loop-i-init : goal.loop-i-init
 loop-i-init g c =
     let orders = c.in_ok-order.ensures.capacity in
+    let few = c.requires.few in
     let outs = c.in_ok-outcomes.ensures.capacity in
     record {
       done = done-none g.S.Store.view c.args.state.now.contents.schema c.args.state.now _ c.in_ok-order.order.items c.in_ok-outcomes.outcomes.items refl c.requires.open c.in_ok-order.ensures.items c.in_ok-outcomes.ensures.items;

@@ -52,6 +52,7 @@ returns-in-Damaged-clause-refused g c =
     let only_damaged = subst (λ (f : OpenFault). IsTrue (view old).is_honest → Told (view old) (λ image. HasNoRecord image → (f ≡ open_fault.Empty) ⊎ IsWant f)) c.in-Damaged.is only in (
       recover-kept c.args.schema.now (view old) (view c.in-Err.store) c.in-Err.ensures.honest c.in-Err.ensures.any_moment c.in-Err.ensures.empty_left,
       damaged-none c.args.schema.now (view old) (view c.in-Err.store) (open_fault.Damaged c.in-Damaged.damaged) (λ h. h) (λ e. cc e) intact only_damaged,
+      c.in-Err.ensures.damaged c.in-Damaged.damaged c.in-Damaged.is,
     )
 
 pub returns-in-StoreFault-clause-refused : goal.returns-in-StoreFault-clause-refused

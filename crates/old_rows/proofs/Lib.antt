@@ -1,0 +1,12 @@
+pub mod WantedFacts
+pub mod RunFacts
+pub mod FillFacts
+pub mod StillFacts
+pub mod BlockFacts
+pub mod AskedFacts
+pub mod FillingFacts
+pub mod PartFacts
+pub mod TakeFacts
+pub mod ReadingFacts
+pub mod OneFacts
+pub mod RunsFacts

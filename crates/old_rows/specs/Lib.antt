@@ -1,0 +1,4 @@
+pub mod Wanted
+pub mod PartsByFile
+pub mod Reading
+pub mod Taking
