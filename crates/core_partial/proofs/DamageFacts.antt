@@ -97,12 +97,12 @@ pub damage_lent : (c now : Contents) (segs later : List SegmentView) (v : ℕ) (
     → IsReadDamage now later (moved_keys now v (key ∷ [])) d → IsReadDamage c segs (moved_keys c v keys) d
 damage_lent c now segs later v keys i key d contents same at h = go (subst (λ (x : Contents). IsReadDamage x later (moved_keys x v (key ∷ [])) d) contents h)
   where
-    other : {k : PreparedKey} {p : Place} → (keeps_live c (current_number c) p ≡ false) ⊎ HasOtherAt c.schema later p k.key → (keeps_live c (current_number c) p ≡ false) ⊎ HasOtherAt c.schema segs p k.key
-    other (inl e) = inl e
-    other {k} {p} (inr g) = inr (at-lent c.schema segs later p _ same g)
+    other : (k : PreparedKey) (p : Place) → (keeps_live c (current_number c) p ≡ false) ⊎ HasOtherAt c.schema later p k.key → (keeps_live c (current_number c) p ≡ false) ⊎ HasOtherAt c.schema segs p k.key
+    other k p (inl e) = inl e
+    other k p (inr g) = inr (at-lent c.schema segs later p _ same g)
 
     go : IsReadDamage c later (moved_keys c v (key ∷ [])) d → IsReadDamage c segs (moved_keys c v keys) d
-    go (inl a) = inl (record { told = a.told; key = a.key; place = a.place; asks = asks-among c (is_moved_key c v) keys i key a.key a.place at a.asks; wrong = other {a.key} {a.place} a.wrong })
+    go (inl a) = inl (record { told = a.told; key = a.key; place = a.place; asks = asks-among c (is_moved_key c v) keys i key a.key a.place at a.asks; wrong = other a.key a.place a.wrong })
     go (inr b) = inr (record { key = b.key; place = b.place; asks = asks-among c (is_moved_key c v) keys i key b.key b.place at b.asks; block = block-lent c.schema segs later b.place d same b.block })
 
 -- ---- all keys that moved

@@ -1,5 +1,5 @@
 -- What was located stands for the rows of the version at which it was.
-use Rattle.std.proofs.Common.{◌≡◌, ◌↔◌, refl, ap, sym, subst, ◌∙◌, ℕ, suc, ◌+◌, ◌-◌, List, [], ◌∷◌, ◌++◌, map, length, Option, Some, None, Bool as Truth, true, false, ◌||◌, cond, slice_get, get_or, nat_lt, if◌then◌else◌, IfSome, arith}
+use Rattle.std.proofs.Common.{◌≡◌, ◌↔◌, refl, ap, sym, subst, ◌∙◌, ℕ, suc, ◌+◌, ◌-◌, ◌≤◌, List, [], ◌∷◌, ◌++◌, map, length, Option, Some, None, Bool as Truth, true, false, ◌||◌, cond, slice_get, get_or, nat_lt, if◌then◌else◌, IfSome, arith}
 use Rattle.std.specs.Prelude.{All, IsTrue}
 use Rattle.std.specs.List.{AllByRecursion}
 use Rattle.std.specs.FinMap.{get}

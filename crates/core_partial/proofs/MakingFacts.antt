@@ -49,6 +49,9 @@ none-made s given made keys rows moves = record {
   };
 }
 
+from-none : (n : ℕ) → n ≡ 0 + n
+from-none n = omega arith
+
 pub one-made : (s : Layout) (given : List ℕ) (fs : List Folded) (was : List (Option Place)) (os : List (Option Row)) (f : Folded) (place : Option Place) (old : Option Row) (before after : MadeKeys)
     → AreOlds s fs os → HasCode s f → AreMadeSoFar s given fs was os before → MakesKey s given f place old before after
     → AreMadeSoFar s given (fs ++ f ∷ []) (was ++ place ∷ []) (os ++ old ∷ []) after
@@ -76,21 +79,24 @@ one-made s given fs was os f place old before after olds code so_far makes = rec
     all_folds = ap (map folded_of) makes.keys ∙ map-append folded_of ks (k ∷ []) ∙ ap (λ gs. gs ++ f ∷ []) so_far.folds
 
     as_many : length before.results.rows.items ≡ 0 + length (rows_left (results_of s given ks os))
-    as_many = ap length so_far.are.rows ∙ ap length (sym (left-made s given ks os))
+    as_many = ap length so_far.are.rows ∙ ap length (sym (left-made s given ks os)) ∙ from-none (length (rows_left (results_of s given ks os)))
 
 -- ---- one after the other
+
+one-after : (i : ℕ) → suc i + 1 ≡ suc (i + 1)
+one-after i = omega arith
 
 pub drop-next : {X : Type 0} (i : ℕ) (xs : List X) (x : X) (rest : List X) → drop i xs ≡ x ∷ rest → drop (i + 1) xs ≡ rest
 drop-next zero [] x rest e = cc
 drop-next zero (y ∷ ys) x rest e = cc
 drop-next (suc i) [] x rest e = cc
-drop-next (suc i) (y ∷ ys) x rest e = drop-next i ys x rest e
+drop-next (suc i) (y ∷ ys) x rest e = ap (λ k. drop k (y ∷ ys)) (one-after i) ∙ drop-next i ys x rest e
 
 take-next : {X : Type 0} (i : ℕ) (xs : List X) (x : X) (rest : List X) → drop i xs ≡ x ∷ rest → take (i + 1) xs ≡ take i xs ++ x ∷ []
 take-next zero [] x rest e = cc
 take-next zero (y ∷ ys) x rest e = cc
 take-next (suc i) [] x rest e = cc
-take-next (suc i) (y ∷ ys) x rest e = ap (λ zs. y ∷ zs) (take-next i ys x rest e)
+take-next (suc i) (y ∷ ys) x rest e = ap (λ k. take k (y ∷ ys)) (one-after i) ∙ ap (λ zs. y ∷ zs) (take-next i ys x rest e)
 
 take-all : {X : Type 0} (i : ℕ) (xs : List X) → length xs ≤ i → take i xs ≡ xs
 take-all zero [] le = refl
@@ -109,8 +115,8 @@ code-at : (s : Layout) (i : ℕ) (fs : List Folded) (f : Folded) (rest : List Fo
 code-at s zero [] f rest h e = cc
 code-at s zero (g ∷ fs) f rest h e = subst (HasCode s) (head_same g f fs rest e) h.0
   where
-    head_same : (a b : Folded) (as bs : List Folded) → a ∷ as ≡ b ∷ bs → a ≡ b
-    head_same a b as bs e = cc
+    head_same : (a b : Folded) (xs ys : List Folded) → a ∷ xs ≡ b ∷ ys → a ≡ b
+    head_same a b xs ys e = cc
 code-at s (suc i) [] f rest h e = cc
 code-at s (suc i) (g ∷ fs) f rest h e = code-at s i fs f rest h.1 e
 
@@ -118,7 +124,7 @@ pub olds-long : (s : Layout) (fs : List Folded) (os : List (Option Row)) → Are
 olds-long s [] [] h = refl
 olds-long s [] (o ∷ os) h = absurd h
 olds-long s (f ∷ fs) [] h = absurd h
-olds-long s (f ∷ fs) (o ∷ os) h = ap suc (olds-long s fs os h)
+olds-long s (f ∷ fs) (o ∷ os) h = ap suc (olds-long s fs os h.1)
 
 -- some are left
 pub none-left : {X : Type 0} (i : ℕ) (xs : List X) → drop i xs ≡ [] → i < length xs → ⊥
@@ -129,17 +135,18 @@ none-left (suc i) (x ∷ xs) e lt = none-left i xs e (omega arith)
 place-next : (i : ℕ) (es : List CodeMove) (d : CodeMove) → i < length es → map (λ (e : CodeMove). e.1) (take (i + 1) es) ≡ map (λ (e : CodeMove). e.1) (take i es) ++ (get_or es i d).1 ∷ []
 place-next i [] d lt = absurd (omega arith)
 place-next zero (e ∷ es) d lt = refl
-place-next (suc i) (e ∷ es) d lt = ap (λ ps. e.1 ∷ ps) (place-next i es d (omega arith))
+place-next (suc i) (e ∷ es) d lt = ap (λ k. map (λ (x : CodeMove). x.1) (take k (e ∷ es))) (one-after i) ∙ ap (λ ps. e.1 ∷ ps) (place-next i es d (omega arith))
 
 pub next-made : (s : Layout) (given : List ℕ) (fs : List Folded) (es : List CodeMove) (os : List (Option Row)) (i : ℕ) (f : Folded) (more : List Folded) (d : CodeMove) (old : Option Row) (others : List (Option Row))
     (before after : MadeKeys) → AreOlds s fs os → AllByRecursion (HasCode s) fs → i < length es → drop i fs ≡ f ∷ more → drop i os ≡ old ∷ others
-    → AreMadeSoFar s given (take i fs) (map (λ (e : CodeMove). e.1) (take i es)) (take i os) before → MakesKey s given f (get_or es i d).1 old before after
+    → AreMadeSoFar s given (take i fs) (map (λ (e : CodeMove). e.1) (take i es)) (take i os) before → d ≡ get_or es i d → MakesKey s given f d.1 old before after
     → AreMadeSoFar s given (take (i + 1) fs) (map (λ (e : CodeMove). e.1) (take (i + 1) es)) (take (i + 1) os) after
-next-made s given fs es os i f more d old others before after olds coded lt there was so_far makes =
+next-made s given fs es os i f more d old others before after olds coded lt there was so_far is makes =
     subst (λ gs. AreMadeSoFar s given gs (map (λ (e : CodeMove). e.1) (take (i + 1) es)) (take (i + 1) os) after) (sym (take-next i fs f more there))
     (subst (λ ps. AreMadeSoFar s given (take i fs ++ f ∷ []) ps (take (i + 1) os) after) (sym (place-next i es d lt))
     (subst (λ rs. AreMadeSoFar s given (take i fs ++ f ∷ []) (map (λ (e : CodeMove). e.1) (take i es) ++ (get_or es i d).1 ∷ []) rs after) (sym (take-next i os old others was))
-    (one-made s given (take i fs) (map (λ (e : CodeMove). e.1) (take i es)) (take i os) f (get_or es i d).1 old before after (olds-first s i fs os olds) (code-at s i fs f more coded there) so_far makes)))
+    (one-made s given (take i fs) (map (λ (e : CodeMove). e.1) (take i es)) (take i os) f (get_or es i d).1 old before after (olds-first s i fs os olds) (code-at s i fs f more coded there) so_far
+    (subst (λ (x : CodeMove). MakesKey s given f x.1 old before after) is makes))))
 
 pub made-all : (s : Layout) (given : List ℕ) (fs : List Folded) (es : List CodeMove) (os : List (Option Row)) (i : ℕ) (made : MadeKeys) → AreOlds s fs os → length es ≡ length fs → length es ≤ i
     → AreMadeSoFar s given (take i fs) (map (λ (e : CodeMove). e.1) (take i es)) (take i os) made → AreMadeSoFar s given fs (map (λ (e : CodeMove). e.1) es) os made

@@ -1,6 +1,6 @@
 -- The old rows that are read of what was found are those of the map for which it stands.
-use Rattle.std.proofs.Common.{◌≡◌, refl, ap, sym, subst, ◌∙◌, ℕ, zero, suc, ◌+◌, ◌<◌, List, [], ◌∷◌, map, length, Option, Some, None, Bool as Truth, true, false, ◌||◌, ◌&&◌, cond, slice_get, IfSome, T, arith}
-use Rattle.std.specs.Prelude.{All, IsTrue, ◌⊎◌, inl, inr}
+use Rattle.std.proofs.Common.{◌≡◌, inl, inr, refl, ap, sym, subst, ◌∙◌, ℕ, zero, suc, ◌+◌, ◌<◌, List, [], ◌∷◌, map, length, Option, Some, None, Bool as Truth, true, false, ◌||◌, ◌&&◌, cond, slice_get, IfSome, T, arith}
+use Rattle.std.specs.Prelude.{All, IsTrue, ◌⊎◌}
 use Rattle.std.specs.List.{AllByRecursion}
 use Rattle.std.specs.FinMap.{get}
 use Rattle.std.specs.Cmp.{eq_by_cmp_equiv}

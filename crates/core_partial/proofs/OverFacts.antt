@@ -49,6 +49,9 @@ use Rattle.core_partial.proofs.SubFacts.{keys_in, rises-filtered}
 
 -- ---- places that stand twice
 
+abbrev weigh : Truth → ℕ
+weigh t = cond t 1 0
+
 count-any : (f : Place → Truth) (xs : List Place) → 1 ≤ count_by f xs → list_any f xs ≡ true
 count-any f [] h = absurd (omega arith)
 count-any f (x ∷ xs) h = go (f x) refl (count-any f xs)
@@ -57,7 +60,7 @@ count-any f (x ∷ xs) h = go (f x) refl (count-any f xs)
     go true e more = ap (λ (t : Truth). t || list_any f xs) e
     go false e more =
         let next = sum_by-cons (λ (q : Place). cond (f q) 1 0) x xs in
-        let none : cond (f x) 1 0 ≡ 0 = ap (λ (t : Truth). cond t 1 0) e in
+        let none : weigh (f x) ≡ 0 = ap weigh e in
         ap (λ (t : Truth). t || list_any f xs) e ∙ more (omega (arith, next, none, h))
 
 not-both : (p : Place) (xs ys : List Place) → count_by (same_place p) xs ≤ 1 → count_by (same_place p) ys ≤ 1 → (stands_in xs p ≡ true → stands_in ys p ≡ true → ⊥)

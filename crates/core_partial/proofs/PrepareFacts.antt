@@ -13,6 +13,8 @@ use Rattle.pk_values.specs.declared.cells.Value.{Value}
 use Rattle.key_code.specs.KeyCode.{key_code}
 use Rattle.index_level0.specs.declared.place.Place.{Place}
 use Rattle.pk_model.specs.Tables.{Rows}
+use Rattle.pk_model.specs.declared.calls.Load.{Load}
+use Rattle.pk_model.specs.declared.calls.Op.{Op}
 use Rattle.rowsets.specs.Indexing.{CodeMove, place_stored}
 use Rattle.rowsets.specs.Live.{Files, FilesOnce, StandsFor, live}
 use Rattle.rowsets.specs.Scans.{AreRowsOf, Piece, listed}
@@ -29,8 +31,10 @@ use Rattle.old_rows.specs.Reading.{AreOldsRead, Olds, SameButCounts, still}
 use Rattle.old_rows.proofs.StillFacts.{none-read as nothing-read, seen-same}
 use Rattle.core_partial.specs.Found.{AreTold, FoundView, IsFoundOf, IsLocated, codes_of, part_seen}
 use Rattle.core_partial.specs.Making.{AreMadeKeys, was_of}
-use Rattle.core_partial.specs.Prepared.{IsMadeOver, folded_of, located_move}
-use Rattle.core_partial.specs.Preparing.{AreFoundKeys, IsMadeOfRead, ReadsFound}
+use Rattle.tablet_state.specs.Readies.{NewSegment}
+use Rattle.core_publish.specs.Prepared.{AreSealedOf, files_of}
+use Rattle.core_partial.specs.Prepared.{IsMadeOver, IsPreparedPartial, PreparedPartialView, folded_of, located_move}
+use Rattle.core_partial.specs.Preparing.{AreFoundKeys, IsMadeOfRead, ReadsFound, found_in}
 use Rattle.core_partial.specs.declared.keys.PreparedKey.{PreparedKey}
 use Rattle.core_partial.specs.declared.making.MadeKeys.{MadeKeys}
 use Rattle.core_partial.proofs.MakingFacts.{located-are, made-fit, made-moves, made-rise}
@@ -158,11 +162,11 @@ piece-still s a b piece e h =
     let there : IsPieceOf s (still b) piece = subst (λ (p : PartView). IsPieceOf s p piece) e (record { file = h.file; told = h.told; is = h.is; dead = h.dead }) in
     record { file = there.file; told = there.told; is = there.is; dead = there.dead }
 
-first_still : (a b : PartView) (as bs : List PartView) → a ∷ as ≡ b ∷ bs → a ≡ b
-first_still a b as bs e = cc
+first_still : (a b : PartView) (xs ys : List PartView) → a ∷ xs ≡ b ∷ ys → a ≡ b
+first_still a b xs ys e = cc
 
-rest_still : (a b : PartView) (as bs : List PartView) → a ∷ as ≡ b ∷ bs → as ≡ bs
-rest_still a b as bs e = cc
+rest_still : (a b : PartView) (xs ys : List PartView) → a ∷ xs ≡ b ∷ ys → xs ≡ ys
+rest_still a b xs ys e = cc
 
 pieces-still : (s : Layout) (ps qs : List PartView) (pieces : List Piece) → map still ps ≡ map still qs → ArePieces s ps pieces → ArePieces s qs pieces
 pieces-still s [] [] pieces e h = h
@@ -182,9 +186,10 @@ told-still s stored (p ∷ ps) (q ∷ qs) e h =
     let same : still p ≡ still q = first_still (still p) (still q) (map still ps) (map still qs) e in
     let dead : q.dead ≡ p.dead = sym (ap (λ (x : PartView). x.dead) same) in
     let number : q.number ≡ p.number = sym (ap (λ (x : PartView). x.number) same) in
-    let piece : IsPieceOf s q (record { rows = stored p.number; dead = p.dead }) = piece-still s p q (record { rows = stored p.number; dead = p.dead }) same h.0 in
-    (subst (λ (x : Piece). IsPieceOf s q x) (λ i. record { rows = stored (sym number i); dead = sym dead i }) piece,
-    told-still s stored ps qs (rest_still (still p) (still q) (map still ps) (map still qs) e) h.1)
+    let piece : IsPieceOf s q (record { rows = stored p.number; dead = p.dead }) = piece-still s p q (record { rows = stored p.number; dead = p.dead }) same h.0 in (
+      subst (λ (x : Piece). IsPieceOf s q x) (λ i. record { rows = stored (sym number i); dead = sym dead i }) piece,
+      told-still s stored ps qs (rest_still (still p) (still q) (map still ps) (map still qs) e) h.1,
+    )
 
 pub found-stays : (f g : FoundView) → SameButCounts f.snapshot g.snapshot → g.load ≡ f.load → g.located ≡ f.located → (m : Rows) → IsFoundOf f m → IsFoundOf g m
 found-stays f g same load located m h =
@@ -222,3 +227,31 @@ none-asked f = record { blocks = []; once = tt; asked_for = All-nil _; read = no
 -- a fault of the maker or of a reader, in the sum of both
 pub one-of-both : (cap old new other : ℕ) → new ≡ old + min 1 (cap - old) → min (new + other) cap ≡ min (old + other) cap + min 1 (cap - min (old + other) cap)
 one-of-both cap old new other counts = omega (arith, counts)
+
+-- ---- the view of what was found
+
+pub found-is : (f : FoundView) (load : Load) (snapshot : SnapshotView) (located entries : List CodeMove) (given : List ℕ) (ops : List Op) → located ≡ entries
+    → Path FoundView (record { load = load; snapshot = snapshot; located = entries }) f → f.load ≡ record { given = given; ops = ops } → found_in given ops snapshot located ≡ f
+found-is f load snapshot located entries given ops same view is =
+    let whole : load ≡ record { given = given; ops = ops } = ap (λ (x : FoundView). x.load) view ∙ is in
+    (λ i. record { load = sym whole i; snapshot = snapshot; located = same i }) ∙ view
+
+-- ---- what is prepared
+
+pub is-prepared : (f : FoundView) (made : MadeKeys) (p : PreparedPartialView) → AreFoundKeys f made → p.schema ≡ f.snapshot.schema → p.load ≡ f.load → p.keys ≡ made.keys.items
+    → p.rows ≡ made.results.rows.items → AreSealedOf f.snapshot.schema (files_of made.results.rows.items) p.files → IsPreparedPartial p
+is-prepared f made p keys schema load ks rows sealed =
+    subst IsPreparedPartial path (record { lawful = keys.lawful; folds = keys.folds; files = record { sealed = sealed; moves_are = keys.moves }; made = keys.was; first = keys.first; over = keys.over })
+  where
+    base : PreparedPartialView
+    base = record { schema = f.snapshot.schema; load = f.load; version = p.version; keys = made.keys.items; rows = made.results.rows.items; files = p.files; again = p.again; spent = p.spent }
+
+    path : base ≡ p
+    path = λ i. record { schema = sym schema i; load = sym load i; version = p.version; keys = sym ks i; rows = sym rows i; files = p.files; again = p.again; spent = p.spent }
+
+pub over-same : (s t : Layout) (l k : Load) (ks : List PreparedKey) (xs ys : List (List Value)) (m : Rows) → s ≡ t → l ≡ k → xs ≡ ys → IsMadeOver t k ks ys m → IsMadeOver s l ks xs m
+over-same s t l k ks xs ys m schema load rows h =
+    subst (λ x. IsMadeOver x l ks xs m) (sym schema) (subst (λ x. IsMadeOver t x ks xs m) (sym load) (subst (λ x. IsMadeOver t k ks x m) (sym rows) h))
+
+pub sealed-same : (s t : Layout) (xs ys : List (List Value)) (files : List NewSegment) → s ≡ t → xs ≡ ys → AreSealedOf s (files_of xs) files → AreSealedOf t (files_of ys) files
+sealed-same s t xs ys files schema rows h = subst (λ x. AreSealedOf x (files_of ys) files) schema (subst (λ rs. AreSealedOf s (files_of rs) files) rows h)

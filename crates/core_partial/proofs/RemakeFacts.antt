@@ -133,7 +133,8 @@ one-more : (c : Contents) (segs : List SegmentView) (given : List ℕ) (ks : Lis
 one-more c segs given ks k old new code are is =
     let s : Layout = c.schema in
     let fit : AreOlds s (map folded_of ks) are.olds = now-fit c segs ks are.olds are.are in
-    let as_many : length old.results.rows.items ≡ 0 + length (rows_left (results_of s given ks are.olds)) = ap length are.rows ∙ ap length (sym (left-made s given ks are.olds)) in
+    let long : length old.results.rows.items ≡ length (rows_left (results_of s given ks are.olds)) = ap length are.rows ∙ ap length (sym (left-made s given ks are.olds)) in
+    let as_many : length old.results.rows.items ≡ 0 + length (rows_left (results_of s given ks are.olds)) = omega (arith, long) in
     let folds : map folded_of (ks ++ k ∷ []) ≡ map folded_of ks ++ folded_of k ∷ [] = map-append folded_of ks (k ∷ []) in
     record {
       olds = are.olds ++ is.row ∷ [];
@@ -239,7 +240,8 @@ module _ (c : Contents) (segs : List SegmentView) (load : Load) (clean : schema_
       ∙ ap (λ keys. code_moves (key_code s) (moves_to s 0 (files_of remade.results.rows.items) keys)) (same-keys s load.given ks are.olds are-fit)
 
 pub long-front : {X : Type 0} (test : X → Truth) (xs : List X) (n : ℕ) → length (filter test (take n xs)) ≤ length (filter test xs)
-long-front test [] n = omega arith
+long-front test [] zero = omega arith
+long-front test [] (suc n) = omega arith
 long-front test (x ∷ xs) zero = omega arith
 long-front test (x ∷ xs) (suc n) = go (test x) (long-front test xs n)
   where

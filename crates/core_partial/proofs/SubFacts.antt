@@ -39,7 +39,7 @@ join false b h g = absurd h
 -- they rise
 rises-above : (test : PreparedKey → Truth) (j : List Value) (ks : List PreparedKey) → T (rise_strictly (j ∷ keys_in ks)) → T (rise_strictly (j ∷ keys_in (filter test ks)))
 rises-above test j [] h = h
-rises-above test j (k ∷ ks) h = go (test k) (rises-above test k ks (run.second (is_lt (key_cmp j k.key)) (rise_strictly (keys_in (k ∷ ks))) h)) (rises-above test j ks (skip-first j k.key (keys_in ks) h))
+rises-above test j (k ∷ ks) h = go (test k) (rises-above test k.key ks (run.second (is_lt (key_cmp j k.key)) (rise_strictly (keys_in (k ∷ ks))) h)) (rises-above test j ks (skip-first j k.key (keys_in ks) h))
   where
     go : (t : Truth) → T (rise_strictly (k.key ∷ keys_in (filter test ks))) → T (rise_strictly (j ∷ keys_in (filter test ks)))
         → T (rise_strictly (j ∷ keys_in (cond t (k ∷ filter test ks) (filter test ks))))

@@ -1,5 +1,5 @@
 -- What is taken out of a prepared load, with what was made again of it.
-use Rattle.std.proofs.Common.{◌≡◌, ◌⊎◌, inl, inr, refl, ap, sym, subst, ◌∙◌, ℕ, ◌+◌, ◌^◌, ◌<◌, ◌≤◌, List, [], ◌∷◌, ◌++◌, map, length, Option, Some, None, Bool as Truth, true, false, is_some, arith}
+use Rattle.std.proofs.Common.{◌≡◌, ◌⊎◌, inl, inr, refl, ap, sym, subst, ◌∙◌, ℕ, ◌+◌, ◌^◌, ◌<◌, ◌≤◌, List, [], ◌∷◌, ◌++◌, map, take, length, Option, Some, None, Bool as Truth, true, false, is_some, arith}
 use Rattle.std.specs.List.{AllByRecursion, list_all}
 use Rattle.dev_traits.specs.View.{View}
 use Rattle.index_level0.specs.declared.place.Place.{Place}
@@ -25,6 +25,11 @@ use Rattle.core_partial.proofs.ChangeFacts.{sealed-both}
 use Rattle.core_partial.proofs.FewFacts.{few-made, few-moves, few-places, few-some}
 use Rattle.core_partial.proofs.OverFacts.{change_over, not_twice_dead}
 use Rattle.core_partial.proofs.SubFacts.{keys_in}
+
+-- the first of two lists
+pub take_first : {X : Type 0} (xs ys : List X) → take (length xs) (xs ++ ys) ≡ xs
+take_first [] ys = refl
+take_first (x ∷ xs) ys = ap (λ zs. x ∷ zs) (take_first xs ys)
 
 -- ---- places in few files
 

@@ -70,16 +70,16 @@ pub fn prepare_partial<M: FileMaker, R: SealedReader>(
     // Over every reader, the rows are made of old rows that were read at the keys' places.
     ensures read { IfOk result (λ p. IsMadeOfRead found.old (map folded_of p.keys) p.rows) }
 
-    // What was found stays.
+    // What was found stays as it was, but for what its readers count.
     ensures found_load { found.new.load ≡ found.old.load }
     ensures found_places { found.new.located ≡ found.old.located }
-    ensures found_version { found.new.snapshot.version ≡ found.old.snapshot.version }
-    ensures found_schema { found.new.snapshot.schema ≡ found.old.snapshot.schema }
+    ensures found_same { SameButCounts found.old.snapshot found.new.snapshot }
     ensures stays { (m : Rows) → IsFoundOf found.old m → IsFoundOf found.new m }
 
     // Where the maker tells its bytes, so does each file.
     ensures told { IfOk result (λ p. EachTells (is_some (M.view maker.old).made) p.files) }
     ensures tells { is_some (M.view maker.new).made ≡ is_some (M.view maker.old).made }
+
     // Damage is that of a block in which an old row stands that is asked for, or of an index that places a key where no
     // live row of its stands; and none is told where what was found stands for a map.
     ensures damaged { IfErr result (λ e. OnOutsideDamage e (IsFoundDamage found.old)) }

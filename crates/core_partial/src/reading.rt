@@ -31,7 +31,7 @@ pub fn keys_over<R: SealedReader>(
     ensures over { IfOk result (λ made. (m : Rows)
         → IsFoundOf (found_in given.now ops.items snapshot.old located.now) m
         → IsMadeOver snapshot.old.schema (record { given = given.now; ops = ops.items })
-            made.keys.items made.results.rows.items m) }
+        made.keys.items made.results.rows.items m) }
     ensures damaged { IfErr result (λ e. OnDamage e
         (IsFoundDamage (found_in given.now ops.items snapshot.old located.now))) }
     ensures intact { IfErr result (λ e. OnDamage e (λ _. (m : Rows)
@@ -45,12 +45,5 @@ pub fn keys_over<R: SealedReader>(
     let _columns = snapshot.schema().columns();
     let keys = fold_lines(alloc, snapshot.schema(), given, None, ops)?;
     let olds = read_olds(alloc, snapshot, &keys, located)?;
-    Ok(make_keys(
-        alloc,
-        snapshot.schema(),
-        given,
-        keys,
-        located,
-        olds,
-    )?)
+    Ok(make_keys(alloc, snapshot.schema(), given, keys, located, olds)?)
 }

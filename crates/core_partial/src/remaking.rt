@@ -1,4 +1,4 @@
-ghost use Rattle.std.specs.Prelude.{◌≡◌, ◌+◌, ◌≤◌, ◌∷◌, [], IfErr, IfOk, IsTrue, List, None, ◌↔◌, Some};
+ghost use Rattle.std.specs.Prelude.{◌≡◌, ◌+◌, ◌≤◌, ◌∷◌, [], IfErr, IfOk, IsTrue, List, None, ◌↔◌, Some, true};
 ghost use Rattle.std.specs.FinMap.{get};
 ghost use Rattle.dev_traits.specs.Causes.{HasReadCause};
 ghost use Rattle.pk_values.specs.Schemas.{fits_row, key_of};

@@ -78,10 +78,19 @@ impl FileMaker for Keeper {
     }
 }
 
+/// A byte that is another one from a read on, counted from 1, as no sealed file has it.
+#[derive(Clone, Copy, Drop)]
+pub struct Turn {
+    pub place: usize,
+    pub value: u8,
+    pub read: u64,
+}
+
 /// A reader of bytes in memory that counts its reads, and fails at one of them, counted from 1.
 #[derive(Drop)]
 pub struct Counter {
     bytes: Vec<u8>,
+    turn: Option<Turn>,
     reads: u64,
     fails_at: u64,
     faults: u64,
@@ -99,15 +108,29 @@ impl Counter {
         };
         Counter {
             bytes,
+            turn: None,
             reads: 0,
             fails_at,
             faults: 0,
         }
     }
 
+    /// Has one of its bytes change while it is read.
+    pub fn turning(mut self, turn: Option<Turn>) -> Counter {
+        self.turn = turn;
+        self
+    }
+
     /// How often it was read.
     pub fn reads(&self) -> u64 {
         self.reads
+    }
+}
+
+// Gives the byte at a place another value, where there is one.
+fn set_byte(bytes: &mut [u8], place: usize, value: u8) {
+    if place < bytes.len() {
+        bytes[place] = value;
     }
 }
 
@@ -139,6 +162,11 @@ impl SealedReader for Counter {
         }
         let start = at as usize;
         into.copy_from_slice(&self.bytes[start..start + into.len()]);
+        if let Some(Turn { place, value, read }) = self.turn {
+            if self.reads >= read && place >= start {
+                set_byte(into, place - start, value);
+            }
+        }
         Ok(())
     }
 
@@ -147,6 +175,7 @@ impl SealedReader for Counter {
         self.reads = self.reads.saturating_add(1);
         Ok(Counter {
             bytes,
+            turn: self.turn,
             reads: 0,
             fails_at: self.fails_at,
             faults: 0,

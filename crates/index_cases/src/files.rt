@@ -1,4 +1,4 @@
-use crate::devices::{Counter, Keeper};
+use crate::devices::{Counter, Keeper, Turn};
 use crate::tallies::Tally;
 use crate::texts::{entry_text, fault_text, number, pairs_of, pairs_text};
 use case_texts::{bytes_of_hex, hex_of};
@@ -8,11 +8,12 @@ use pk_index::Pair;
 use sha2::{Digest, Sha256};
 use std::alloc::{AllocError, Global};
 
-/// The bytes of a file in hand, and at which call the next maker or reader fails, or 0.
+/// The bytes of a file in hand, at which call the next maker or reader fails, or 0, and what the next reader turns.
 #[derive(Drop)]
 pub struct Files {
     pub bytes: Vec<u8>,
     fails_at: u64,
+    turn: Option<Turn>,
 }
 
 // What reading told of a file, with its reads and faults.
@@ -60,12 +61,25 @@ impl Files {
         Files {
             bytes: Vec::new(alloc),
             fails_at: 0,
+            turn: None,
         }
     }
 
     /// `failing CALL`: the next maker or reader fails at its call of this number, from 1.
     pub fn failing(&mut self, alloc: Global, words: &str) -> Result<String, AllocError> {
         self.fails_at = number(words);
+        "ok".to_string(alloc)
+    }
+
+    /// `turn PLACE HEX READ`: a byte of the next reader is another one from this read on, from 1.
+    pub fn turn(&mut self, alloc: Global, words: &str) -> Result<String, AllocError> {
+        let (place, rest) = words.split_once(' ').unwrap_or((words, ""));
+        let (digits, read) = rest.split_once(' ').unwrap_or((rest, ""));
+        self.turn = Some(Turn {
+            place: place.parse::<usize>().unwrap_or(0),
+            value: bytes_of_hex(alloc, digits)?.first().copied().unwrap_or(0),
+            read: number(read),
+        });
         "ok".to_string(alloc)
     }
 
@@ -80,7 +94,8 @@ impl Files {
     pub fn reader(&mut self, alloc: Global) -> Result<Counter, AllocError> {
         let fails_at = self.fails_at;
         self.fails_at = 0;
-        Ok(Counter::new(alloc, self.bytes.clone()?, fails_at))
+        let turn = self.turn.take();
+        Ok(Counter::new(alloc, self.bytes.clone()?, fails_at).turning(turn))
     }
 
     /// `write ENTRIES`: the index file of these entries, and how many bytes it has.

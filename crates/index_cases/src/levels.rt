@@ -1,4 +1,4 @@
-use crate::texts::{entry_text, number, pair_of, pairs_text};
+use crate::texts::{entry_text, pair_of, pairs_text};
 use case_texts::{bytes_of_hex, hex_of};
 use index_file::{hash, read_body, read_bucket};
 use index_level0::Level0;
@@ -55,19 +55,5 @@ pub fn entries(alloc: Global, level: &Level0) -> Result<String, AllocError> {
 /// `clear`: takes all of level 0 out, and tells how many entries there are then.
 pub fn clear(alloc: Global, level: &mut Level0) -> Result<String, AllocError> {
     level.clear();
-    format!(in alloc; "{}", level.len())
-}
-
-/// `fill COUNT`: puts so many keys, the numbers from 0 on in four bytes, into level 0.
-pub fn fill(alloc: Global, level: &mut Level0, words: &str) -> Result<String, AllocError> {
-    for key in 0..number(words) {
-        if level.len() < Level0::MOST_ENTRIES {
-            level.reserve(1)?;
-            level.put(
-                index_level0::KeyBytes::from_slice(&key.to_be_bytes()[4..]),
-                None,
-            );
-        }
-    }
     format!(in alloc; "{}", level.len())
 }

@@ -39,7 +39,6 @@ impl Desk {
             "bucket" => levels::bucket(alloc, words),
             "body" => levels::body(alloc, words),
             "put" => levels::put(alloc, &mut self.level, words),
-            "fill" => levels::fill(alloc, &mut self.level, words),
             "get" => levels::get(alloc, &self.level, words),
             "len" => format!(in alloc; "{}", self.level.len()),
             "entries" => levels::entries(alloc, &self.level),
@@ -68,6 +67,7 @@ impl Desk {
         let (call, words) = line.split_once(' ').unwrap_or((line, ""));
         match call {
             "failing" => self.files.failing(alloc, words),
+            "turn" => self.files.turn(alloc, words),
             "write" => self.files.write(alloc, words),
             "made" => self.files.made(alloc),
             "digest" => self.files.digest(alloc),

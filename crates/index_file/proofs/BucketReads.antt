@@ -1,5 +1,5 @@
 -- The entries that the bytes of a bucket are.
-use Rattle.std.proofs.Common.{◌≡◌, ap, sym, subst, ◌∙◌, ℕ, ◌+◌, arith, List, ◌++◌, length, take, drop, Some, Bool as Truth, true, false, refl, T, slice_get}
+use Rattle.std.proofs.Common.{◌≡◌, ap, sym, subst, ◌∙◌, ℕ, ◌+◌, arith, List, length, take, drop, Some, Bool as Truth, true, false, refl, T, slice_get}
 use Rattle.std.specs.List.{list_all}
 use Rattle.std.specs.FinMap.{is_sorted}
 use Rattle.std.specs.Cmp.Lexicographic.{slice_cmp}
@@ -20,7 +20,7 @@ body_in es bytes len long is =
     let counted : length body ≡ len = omega (arith, long, ap length is, length-append body (sha256 body), length-sha256 body) in
     sym (take_at body (sha256 body) len counted) ∙ ap (take len) is
 
-undigested : (buckets b base len : ℕ) (bytes : List ℕ) (es : List Pair) → length bytes ≡ len + 32 → IsBucketOf buckets b base bytes es → IsBucket (take len bytes) es
+pub undigested : (buckets b base len : ℕ) (bytes : List ℕ) (es : List Pair) → length bytes ≡ len + 32 → IsBucketOf buckets b base bytes es → IsBucket (take len bytes) es
 undigested buckets b base len bytes es long is = record { fit = is.fit; few = is.few; written = body_in es bytes len long is.written }
 
 pub the_bucket : (buckets b base len : ℕ) (bytes : List ℕ) (es : List Pair) → length bytes ≡ len + 32 → drop len bytes ≡ sha256 (take len bytes) → IsBucket (take len bytes) es

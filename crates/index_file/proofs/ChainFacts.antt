@@ -1,11 +1,11 @@
 -- One entry more in front of the chains.
 use Rattle.std.proofs.Common.{◌≡◌, ◌≢◌, refl, ap, sym, subst, ◌∙◌, ℕ, ◌+◌, ◌-◌, ◌<◌, ◌≤◌, arith, List, [], ◌∷◌, ◌++◌, append_assoc, length, drop, get_or, Some, None, Bool as Truth, true, false, cond, ◌==◌}
-use Rattle.std.specs.List.{filter, flat_map, slice_get}
+use Rattle.std.specs.List.{AllByRecursion, filter, flat_map, slice_get}
 use Rattle.std.proofs.lemmas.List.{drop_all, drop_more, get_or-replicate, get_or-set_other, get_or-set_same, length-drop, length-replicate, length-set}
 use Rattle.std.proofs.lemmas.Option.{slice_get-get_or, slice_get_within}
 use Rattle.std.proofs.lemmas.Bool.Decides.{nat_tests}
 use Rattle.std.proofs.Math.ListN.{replicate, set}
-use Rattle.index_file.specs.Buckets.{Pair, bucket_of, entry_bytes, in_bucket}
+use Rattle.index_file.specs.Buckets.{Pair, bucket_of, entry_bytes, in_bucket, PairFits}
 use Rattle.index_file.specs.Chains.{Chained, Leads}
 
 leads_still : (es : List Pair) (next : List ℕ) (k v at : ℕ) (out : List Pair) → k < at → Leads es next at out → Leads es (set next k v) at out
@@ -156,3 +156,22 @@ written_on out new whole n bucket e x is same split so_far =
     ∙ append_assoc out (entry_bytes e) (flat_map entry_bytes (drop (n + 1) bucket))
     ∙ ap (λ (xs : List Pair). out ++ flat_map entry_bytes xs) (sym split)
     ∙ so_far
+
+-- ---- each entry fits its form
+
+pub none_fit : (es : List Pair) (n : ℕ) → n ≡ length es → AllByRecursion PairFits (drop (n - 0) es)
+none_fit es n end = subst (λ (xs : List Pair). AllByRecursion PairFits xs) (sym (drop_all (n - 0) es (omega (arith, end)))) tt
+
+pub fit_step : (es : List Pair) (n : ℕ) (e : Pair) → n < length es → e ≡ get_or es (length es - 1 - n) e → PairFits e → AllByRecursion PairFits (drop (length es - n) es)
+    → AllByRecursion PairFits (drop (length es - (n + 1)) es)
+fit_step es n e less at fits all =
+    let k = length es - 1 - n in
+    let within : k < length es = omega arith in
+    let before : length es - n ≡ k + 1 = omega arith in
+    let after : k ≡ length es - (n + 1) = omega arith in
+    let split : drop k es ≡ e ∷ drop (k + 1) es = drop_more es k e within ∙ ap (λ (x : Pair). x ∷ drop (k + 1) es) (sym at) in
+    subst (λ (m : ℕ). AllByRecursion PairFits (drop m es)) after
+    (subst (λ (xs : List Pair). AllByRecursion PairFits xs) (sym split) (fits, subst (λ (m : ℕ). AllByRecursion PairFits (drop m es)) before all))
+
+pub all_fit : (es : List Pair) (n : ℕ) → n ≡ 0 → AllByRecursion PairFits (drop n es) → AllByRecursion PairFits es
+all_fit es n none all = subst (λ (m : ℕ). AllByRecursion PairFits (drop m es)) none all

@@ -1,5 +1,5 @@
 -- The entries of all buckets of a file.
-use Rattle.std.proofs.Common.{◌≡◌, refl, ap, sym, subst, ◌∙◌, ℕ, zero, suc, ◌+◌, ◌<◌, ◌≤◌, ◌==◌, ◌&&◌, arith, List, [], ◌∷◌, ◌++◌, append_assoc, length, map, take, drop, Some, None, Bool as Truth, true, false, cond, T, get_or, slice_get}
+use Rattle.std.proofs.Common.{◌≡◌, refl, ap, sym, subst, ◌∙◌, ℕ, zero, suc, ◌+◌, ◌<◌, ◌≤◌, ◌==◌, ◌&&◌, arith, List, [], ◌∷◌, ◌++◌, append_assoc, length, map, take, Some, None, Bool as Truth, true, false, cond, T, slice_get}
 use Rattle.std.specs.Prelude.{Option}
 use Rattle.std.specs.List.{AllByRecursion, IsDistinct, flat_map, list_all, range_with_len}
 use Rattle.std.specs.Map.{keys_of}
@@ -22,7 +22,7 @@ use Rattle.index_level0.proofs.LevelFacts.{len_level, same_key}
 use Rattle.index_file.specs.Hash.{hash}
 use Rattle.index_file.specs.declared.footers.BucketMark.{BucketMark}
 use Rattle.index_file.specs.declared.footers.IndexFooter.{IndexFooter}
-use Rattle.index_file.specs.Buckets.{Pair, bucket_of, buckets_for, buckets_of, footer_of, in_bucket}
+use Rattle.index_file.specs.Buckets.{Pair, bucket_of, buckets_for, buckets_of, in_bucket}
 use Rattle.index_file.specs.Entries.{belongs, IsFileOf, IsTheBucket, pair_with_base, sum_fits, with_base}
 use Rattle.index_file.specs.Reads.{bucket_in}
 use Rattle.index_file.proofs.BucketFacts.{bucket_at, length-buckets_of}

@@ -51,7 +51,7 @@ footer_counts a b f g e =
 same_lengths : (n m : ℕ) → n < 2 ^ 64 → m < 2 ^ 64 → u64_bytes n ≡ u64_bytes m → n ≡ m
 same_lengths n m f g e = (u64_front n m [] [] f g (ap (λ (bytes : List ℕ). bytes ++ []) e)).0
 
-short_footer : (level : Level) → LevelFits level → length (footer_bytes (footer_of level)) < 2 ^ 64
+pub short_footer : (level : Level) → LevelFits level → length (footer_bytes (footer_of level)) < 2 ^ 64
 short_footer level f =
     let foot = footer_bytes (footer_of level) in
     let all = flat_map bucket_file (buckets_of level) in

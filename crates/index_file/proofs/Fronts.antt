@@ -52,7 +52,7 @@ length-u32 n = length-bytes_high_first 4 n
 same_place : (p q : Place) → p.segment ≡ q.segment → p.row ≡ q.row → p ≡ q
 same_place p q e f i = record { segment = e i; row = f i }
 
-place_front : (x y : Entry) (r s : List ℕ) → PlaceFits x → PlaceFits y → place_bytes x ++ r ≡ place_bytes y ++ s → (x ≡ y) × (r ≡ s)
+pub place_front : (x y : Entry) (r s : List ℕ) → PlaceFits x → PlaceFits y → place_bytes x ++ r ≡ place_bytes y ++ s → (x ≡ y) × (r ≡ s)
 place_front None None r s f g e = (refl, (heads 0 0 r s e).1)
 place_front None (Some q) r s f g e = absurd (omega (arith, (heads 0 1 r ((u64_bytes q.segment ++ u32_bytes q.row) ++ s) e).0))
 place_front (Some p) None r s f g e = absurd (omega (arith, (heads 1 0 ((u64_bytes p.segment ++ u32_bytes p.row) ++ r) s e).0))

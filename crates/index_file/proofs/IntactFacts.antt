@@ -1,9 +1,9 @@
 -- The buckets of the file of a level.
-use Rattle.std.proofs.Common.{◌≡◌, refl, ap, sym, subst, ◌∙◌, ℕ, zero, suc, ◌+◌, ◌<◌, ◌≤◌, ◌^◌, ◌==◌, ◌&&◌, arith, List, [], ◌∷◌, ◌++◌, length, map, take, drop, Some, None, Bool as Truth, true, false, cond, T, slice_get}
+use Rattle.std.proofs.Common.{◌≡◌, refl, ap, sym, subst, ◌∙◌, ℕ, suc, ◌+◌, ◌<◌, ◌^◌, ◌==◌, ◌&&◌, arith, List, [], ◌∷◌, length, map, take, drop, Some, Bool as Truth, true, false, cond, slice_get}
 use Rattle.std.specs.Prelude.{Option}
-use Rattle.std.specs.List.{AllByRecursion, filter, list_all}
+use Rattle.std.specs.List.{list_all}
 use Rattle.std.specs.Option.{option_map}
-use Rattle.std.specs.FinMap.{entries, entries_sorted, find, get, get-entries, is_sorted, len, len-entries}
+use Rattle.std.specs.FinMap.{entries, entries_sorted, find, get, get-entries, len, len-entries}
 use Rattle.std.specs.FinMap.Entries.{is_sorted-where_key}
 use Rattle.std.specs.Cmp.Lexicographic.{slice_cmp}
 use Rattle.std.specs.Ordering.{eq_by_cmp, nat_cmp}
@@ -18,11 +18,11 @@ use Rattle.dev_traits.specs.declared.faults.Shown.TheVariants.{Digests, Form, Ab
 use Rattle.index_level0.specs.Levels.{Entry, Level}
 use Rattle.index_file.specs.declared.footers.BucketMark.{BucketMark}
 use Rattle.index_file.specs.declared.footers.IndexFooter.{IndexFooter}
-use Rattle.index_file.specs.Buckets.{LevelFits, Pair, PairFits, bucket_body, bucket_file, bucket_of, buckets_for, buckets_of, footer_of, in_bucket, index_file, marks_from}
+use Rattle.index_file.specs.Buckets.{Pair, bucket_body, bucket_file, bucket_of, buckets_for, buckets_of, footer_of, in_bucket, marks_from}
 use Rattle.index_file.specs.Entries.{belongs, BucketShown, IsBucketOf, IsFileOf, IsTheBucket, pair_with_base, sum_fits, with_base}
-use Rattle.index_file.specs.Footers.{Differs, HasFooter}
+use Rattle.index_file.specs.Footers.{HasFooter}
 use Rattle.index_file.specs.Reads.{bucket_in}
-use Rattle.index_file.proofs.BucketFacts.{bucket_at, bucket_stands_there, bucket_tells, key_has_bucket, length-buckets_of}
+use Rattle.index_file.proofs.BucketFacts.{bucket_at, bucket_stands_there, bucket_tells, length-buckets_of}
 use Rattle.index_file.proofs.FooterFacts.{bucket_within}
 use Rattle.index_file.proofs.FormFacts.{all_kept, few_kept}
 

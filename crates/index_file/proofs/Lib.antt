@@ -13,3 +13,6 @@ pub mod ReadingFacts
 pub mod SequenceFacts
 pub mod TailFacts
 pub mod RiseFacts
+pub mod SeekFacts
+pub mod WholeFacts
+pub mod MadeFacts

@@ -1,17 +1,19 @@
 -- One bucket more, in what was made and in the marks.
-use Rattle.std.proofs.Common.{◌≡◌, refl, ap, sym, subst, ◌∙◌, ℕ, ◌+◌, ◌<◌, ◌≤◌, arith, List, [], ◌∷◌, ◌++◌, append_assoc, length, drop, Some, None, T}
+use Rattle.std.proofs.Common.{◌≡◌, refl, ap, sym, subst, ◌∙◌, ℕ, ◌+◌, ◌<◌, ◌≤◌, arith, List, [], ◌∷◌, ◌++◌, append_assoc, length, map, drop, Some, None, T, true, ◌&&◌, ◌^◌}
 use Rattle.std.specs.Prelude.{Option}
-use Rattle.std.specs.List.{flat_map, slice_get}
+use Rattle.std.specs.List.{AllByRecursion, flat_map}
 use Rattle.std.specs.Option.{option_map}
 use Rattle.std.specs.FinMap.{entries, entries-from_sorted, from_sorted, is_sorted, len, len-entries}
 use Rattle.std.specs.Cmp.Lexicographic.{slice_cmp}
 use Rattle.std.specs.Ordering.{nat_cmp}
 use Rattle.std.proofs.lemmas.List.{append-nil, drop_all, drop_more}
 use Rattle.std.proofs.lemmas.Option.{get_or_from_slice_get, slice_get_within}
-use Rattle.index_level0.specs.Levels.{Level}
+use Rattle.std.proofs.lemmas.Bool.Decides.{nat_tests}
+use Rattle.index_level0.specs.Levels.{Entry, Level}
 use Rattle.index_file.specs.declared.footers.BucketMark.{BucketMark}
 use Rattle.index_file.specs.declared.footers.IndexFooter.{IndexFooter}
-use Rattle.index_file.specs.Buckets.{Pair, bucket_body, bucket_file, buckets_for, buckets_of, footer_of, in_bucket, index_file, marks_from, tail_of}
+use Rattle.index_file.specs.Buckets.{Pair, bucket_body, bucket_file, buckets_for, buckets_of, footer_of, in_bucket, index_file, marks_from, PairFits, PlaceFits, tail_of}
+use Rattle.index_file.specs.Entries.{IsFileOf, pair_with_base, sum_fits, sums_fit, with_base}
 use Rattle.index_file.proofs.BucketFacts.{bucket_at, length-bucket_file, length-buckets_of}
 
 abbrev pub level_of : List Pair → Level
@@ -94,3 +96,38 @@ whole_file level footer tail sealed last before started old bytes is tail_is s l
       where
         same : (y : List ℕ) → Some bytes ≡ Some y → bytes ≡ y
         same y h = cc
+
+-- ---- the file of these entries
+
+sums_at_0 : (es : List Pair) → AllByRecursion PairFits es → sums_fit 0 es ≡ true
+sums_at_0 [] fit = refl
+sums_at_0 (e ∷ es) fit = ap (λ t. t && sums_fit 0 es) (one e.1 fit.0.2) ∙ sums_at_0 es fit.1
+  where
+    one : (x : Entry) → PlaceFits x → sum_fits 0 x ≡ true
+    one None fits = refl
+    one (Some p) fits = let small : 0 + p.segment < 2 ^ 64 = omega (arith, fits.0) in grind (arith, nat_tests, small)
+
+same_at_0 : (es : List Pair) → es ≡ map (pair_with_base 0) es
+same_at_0 [] = refl
+same_at_0 (e ∷ es) = λ i. (e.0, one e.1 i) ∷ same_at_0 es i
+  where
+    one : (x : Entry) → x ≡ with_base 0 x
+    one None = refl
+    one (Some p) = let s : p.segment ≡ 0 + p.segment = omega arith in λ i. Some (record { segment = s i; row = p.row })
+
+pub file_of : (es : List Pair) (f : IndexFooter) (bytes : List ℕ) → T (is_sorted (slice_cmp nat_cmp) es) → AllByRecursion PairFits es → length es < 2 ^ 64 → length bytes < 2 ^ 64
+    → f ≡ footer_of (level_of es) → bytes ≡ index_file (level_of es) → IsFileOf 0 f bytes (level_of es)
+file_of es f bytes rise fit few short footer is =
+    let all = entries_are es rise in
+    record {
+      stored = level_of es;
+      fits = record {
+        each = subst (λ (xs : List Pair). AllByRecursion PairFits xs) (sym all) fit;
+        few = omega (arith, few, len_is es rise);
+        size = omega (arith, short, ap (λ (bs : List ℕ). length bs) is);
+      };
+      sums = ap (sums_fit 0) all ∙ sums_at_0 es fit;
+      footer_is = footer;
+      file_is = is;
+      level_is = same_at_0 (entries (level_of es));
+    }

@@ -1,5 +1,5 @@
 -- Readers of one file, and what was told of damage.
-use Rattle.std.proofs.Common.{◌≡◌, ◌≢◌, ap, sym, ◌∙◌, ℕ, zero, suc, ◌+◌, ◌-◌, ◌^◌, ◌<◌, ◌≤◌, arith, min, refl, length, get_or, inl, Ok, Err, Some, List, [], ◌∷◌, true, ◌&&◌, slice_get}
+use Rattle.std.proofs.Common.{◌≡◌, ◌≢◌, ap, sym, subst, ◌∙◌, ℕ, zero, suc, ◌+◌, ◌-◌, ◌^◌, ◌<◌, ◌≤◌, arith, min, refl, length, get_or, inl, Ok, Err, Some, List, [], ◌∷◌, true, slice_get}
 use Rattle.std.specs.Prelude.{Result}
 use Rattle.std.proofs.lemmas.Bool.{and_parts}
 use Rattle.std.proofs.lemmas.Option.{slice_get-get_or}
@@ -107,3 +107,33 @@ no_damage (read.Damaged damaged) base number f reader level known is tells h =
     ∥∥₁_elim known (λ x. absurd x) (λ k. intact_not_shown base f h.file level h.is (k h.file h.told) is.bucket mark.0 damaged.shown mark.1 (is.is.shows h.file h.told mark.0 mark.1))
 no_damage read.StoreFault base number f reader level known is tells h = tells
 no_damage read.Memory base number f reader level known is tells h = tells
+
+-- ---- the damage of bytes that were read
+
+pub failed_after : (old new : ReaderView) (e : ReadFault) → HasRead 1 old new → e ≢ read.StoreFault → HasFailed 1 old new e
+failed_after old new e has other = record {
+  same = has.same;
+  reads = omega (arith, has.reads);
+  grows = omega (arith, has.reads);
+  well = λ _. has.unfailed;
+  failed = λ is. absurd (other is);
+}
+
+-- no bucket stands outside of a file that tells its bytes
+pub outside_damage : (e : ReadFault) (base number b : ℕ) (f : IndexFooter) (reader : ReaderView) → OnDamage e (IsDamage number (part.Bucket b) (λ shown. OnFile reader (λ file. ⊥)))
+    → OnDamage e (IsDamage number (part.Bucket b) (λ shown. OnFile reader (λ file. OfBucket f b (λ mark. BucketShown (length f.buckets) b base mark.length (bucket_in file mark) shown))))
+outside_damage (read.Damaged damaged) base number b f reader is = record { file_is = is.file_is; part_is = is.part_is; shows = λ file told mark got. absurd (is.shows file told) }
+outside_damage read.StoreFault base number b f reader is = tt
+outside_damage read.Memory base number b f reader is = tt
+
+-- the bytes are those of the file's bucket
+pub read_damage : (e : ReadFault) (base number b : ℕ) (f : IndexFooter) (reader : ReaderView) (bytes : List ℕ) → OnFile reader (λ file. OfBucket f b (λ mark. bytes ≡ bucket_in file mark))
+    → OnDamage e (IsDamage number (part.Bucket b) (λ shown. OfBucket f b (λ mark. BucketShown (length f.buckets) b base mark.length bytes shown)))
+    → OnDamage e (IsDamage number (part.Bucket b) (λ shown. OnFile reader (λ file. OfBucket f b (λ mark. BucketShown (length f.buckets) b base mark.length (bucket_in file mark) shown))))
+read_damage (read.Damaged damaged) base number b f reader bytes are is = record {
+  file_is = is.file_is;
+  part_is = is.part_is;
+  shows = λ file told mark got. subst (λ (bs : List ℕ). BucketShown (length f.buckets) b base mark.length bs damaged.shown) (are file told mark got) (is.shows mark got);
+}
+read_damage read.StoreFault base number b f reader bytes are is = tt
+read_damage read.Memory base number b f reader bytes are is = tt

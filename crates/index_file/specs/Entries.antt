@@ -1,5 +1,5 @@
 -- What the bytes of a bucket are read as, in a file with a base.
-use Rattle.std.specs.Prelude.{◌≡◌, ℕ, ◌+◌, ◌^◌, ◌<◌, ◌==◌, ◌&&◌, nat_lt, Bool as Truth, true, List, length, map, take, drop, IsTrue, Option, Some, None, T}
+use Rattle.std.specs.Prelude.{◌≡◌, ℕ, ◌+◌, ◌^◌, ◌<◌, ◌==◌, ◌&&◌, nat_lt, Bool as Truth, true, List, length, map, take, drop, IsTrue, Some, None, T}
 use Rattle.std.specs.List.{AllByRecursion, list_all}
 use Rattle.std.specs.FinMap.{entries, is_sorted}
 use Rattle.std.specs.Cmp.Lexicographic.{slice_cmp}

@@ -6,7 +6,7 @@ use Rattle.dev_traits.specs.declared.faults.Shown.{Shown}
 use Rattle.dev_traits.specs.declared.faults.Shown.TheVariants.{Digests, Form, Absent}
 use Rattle.index_file.specs.declared.footers.BucketMark.{BucketMark}
 use Rattle.index_file.specs.declared.footers.IndexFooter.{IndexFooter}
-use Rattle.index_file.specs.Buckets.{buckets_for, footer_body, footer_bytes, tail_of, u64_bytes}
+use Rattle.index_file.specs.Buckets.{buckets_for, footer_bytes, tail_of, u64_bytes}
 
 -- a digest is kept behind so many bytes, and they have another one
 pub record Differs (len : ℕ) (bytes : List ℕ) (kept found : Digest) : Type 0 where

@@ -7,8 +7,11 @@ use Rattle.index_level0.specs.Levels.{Level}
 use Rattle.index_levels.specs.IndexLog.{Body}
 use Rattle.index_file.specs.Hash.{hash}
 use Rattle.index_file.specs.Buckets.{LevelFits, Pair, bucket_file, bucket_of, buckets_for, buckets_of, footer_of, index_file}
+use Rattle.index_file.specs.Entries.{IsFileOf}
+use Rattle.index_file.specs.Footers.{HasFooter}
 use Rattle.index_file.specs.Reading.{IsBucket}
 use Rattle.index_file.specs.declared.footers.BucketMark.{BucketMark}
+use Rattle.index_file.specs.declared.footers.IndexFooter.{IndexFooter}
 use Rattle.index_file.specs.Bodies.{BodyFits, body_bytes}
 
 abbrev pub HashVectors : Type 0
@@ -39,3 +42,10 @@ BytesOfOneBody = (a b : Body) → BodyFits a → BodyFits b → body_bytes a ≡
 -- the bytes of a bucket are those of one list of entries
 abbrev pub BucketOfOneList : Type 0
 BucketOfOneList = (bytes : List ℕ) (a b : List Pair) → IsBucket bytes a → IsBucket bytes b → a ≡ b
+
+-- a file that was made has the footer that it was made with, and this tells of as many buckets as its entries need
+abbrev pub MadeHasFooter : Type 0
+MadeHasFooter = (base : ℕ) (f : IndexFooter) (file : List ℕ) (level : Level) → IsFileOf base f file level → HasFooter f file
+
+abbrev pub FooterIsNumbered : Type 0
+FooterIsNumbered = (level : Level) → length (footer_of level).buckets ≡ buckets_for (footer_of level).entries

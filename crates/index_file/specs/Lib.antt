@@ -11,3 +11,5 @@ pub mod Listing
 pub mod Making
 pub mod Reading
 pub mod Reads
+pub mod Seeking
+pub mod Wholes

@@ -12,11 +12,14 @@ use Rattle.index_file.specs.Buckets.{Pair, bucket_of}
 use Rattle.index_file.specs.Entries.{IsTheBucket, pair_with_base, with_base}
 use Rattle.index_file.specs.Reads.{bucket_in, OfBucket, OnFile}
 
--- where the reader tells its bytes, the bucket of the key is one, and this is what it has at the key, counted from the base
+-- where the reader tells its bytes, bucket b is one, and this is what it has at a key, counted from the base
+abbrev pub HasEntryIn : ℕ → IndexFooter → ReaderView → ℕ → List ℕ → Option Entry → Type 0
+HasEntryIn base f reader b key entry = OnFile reader (λ file. OfBucket f b (λ mark.
+    (es : List Pair) × IsTheBucket (length f.buckets) b base (bucket_in file mark) es × (entry ≡ option_map (with_base base) (find (slice_cmp nat_cmp) key es))))
+
+-- the same of the bucket of the key
 abbrev pub HasEntry : ℕ → IndexFooter → ReaderView → List ℕ → Option Entry → Type 0
-HasEntry base f reader key entry = OnFile reader (λ file. OfBucket f (bucket_of (length f.buckets) key) (λ mark.
-    (es : List Pair) × IsTheBucket (length f.buckets) (bucket_of (length f.buckets) key) base (bucket_in file mark) es
-    × (entry ≡ option_map (with_base base) (find (slice_cmp nat_cmp) key es))))
+HasEntry base f reader key entry = HasEntryIn base f reader (bucket_of (length f.buckets) key) key entry
 
 -- from bucket b on, the buckets of the file have these entries, each bucket by its digest and its form
 abbrev pub HaveEntries : ℕ → IndexFooter → List ℕ → ℕ → List (List Pair) → Type 0

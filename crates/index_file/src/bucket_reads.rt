@@ -1,4 +1,4 @@
-ghost use Rattle.std.specs.Prelude.{◌≡◌, ◌↔◌, ◌+◌, ◌<◌, ◌≤◌, ◌^◌, IfErr, IfOk, IsTrue, T, length};
+ghost use Rattle.std.specs.Prelude.{◌≡◌, ◌≢◌, ◌↔◌, ◌+◌, ◌<◌, ◌≤◌, ◌^◌, IfErr, IfOk, IsTrue, T, length};
 ghost use Rattle.std.specs.List.{list_all};
 ghost use Rattle.std.specs.FinMap.{is_sorted};
 ghost use Rattle.std.specs.Cmp.Lexicographic.{slice_cmp};
@@ -26,7 +26,8 @@ fn belongs(entry: &(KeyBytes, Option<Place>), buckets: u64, b: u64, base: u64) -
     bucket_of(entry.0.as_slice(), buckets) == b && sum_fits(entry.1, base)
 }
 
-fn sum_fits(entry: Option<Place>, base: u64) -> bool
+/// Whether a place's number of its segment and a base have a sum.
+pub(crate) fn sum_fits(entry: Option<Place>, base: u64) -> bool
     ensures { result ≡ sum_fits base entry }
 {
     match entry {
@@ -85,6 +86,65 @@ fn is_inside(mark: &BucketMark, size: u64) -> bool
     mark.length <= size && mark.length + 32 <= size && mark.place <= size - (mark.length + 32)
 }
 
+/// The bytes of bucket `b`, counted from 0, with its digest, by one read.
+pub(crate) fn read_bytes_of<R: SealedReader>(
+    alloc: Global,
+    reader: &mut R,
+    footer: &IndexFooter,
+    number: u64,
+    b: usize,
+) -> Result<Vec<u8>, ReadFault>
+    requires known { ∥ KnowsFooter (R.view reader.old) footer.now ∥₁ }
+    requires there { b < length footer.now.buckets }
+    ensures bytes { IfOk result (λ bytes. OnFile (R.view reader.old) (λ file. OfBucket footer.now b (λ mark. bytes.items ≡ bucket_in file mark))) }
+    ensures long { IfOk result (λ bytes. OfBucket footer.now b (λ mark. length bytes.items ≡ mark.length + 32)) }
+
+    // A file that tells its bytes has each bucket inside.
+    ensures damaged { IfErr result (λ e. OnDamage e (IsDamage number (part.Bucket b) (λ shown. OnFile (R.view reader.old) (λ file. ⊥)))) }
+    ensures reading { Reading 1 (R.view reader.old) (R.view reader.new) result }
+{
+    let mark = footer.mark(b);
+    if !is_inside(&mark, reader.length()) {
+        return Err(fault_of(
+            number,
+            Part::Bucket(b as u64),
+            PartFault::Damaged(Shown::Form),
+        ));
+    }
+    let bytes = read_piece(alloc, reader, mark.place, mark.length as usize + 32)?;
+    Ok(bytes)
+}
+
+/// The entries whose bytes bucket `b` of a file has, with its digest.
+pub(crate) fn told_entries(
+    alloc: Global,
+    footer: &IndexFooter,
+    number: u64,
+    base: u64,
+    b: usize,
+    bytes: &[u8],
+) -> Result<Vec<(KeyBytes, Option<Place>)>, ReadFault>
+    requires there { b < length footer.now.buckets }
+    requires long { OfBucket footer.now b (λ mark. length bytes.now ≡ mark.length + 32) }
+    ensures entries { IfOk result (λ es. IsTheBucket (length footer.now.buckets) b base bytes.now es.items) }
+    ensures damaged { IfErr result (λ e. OnDamage e (IsDamage number (part.Bucket b) (λ shown. OfBucket footer.now b (λ mark.
+        BucketShown (length footer.now.buckets) b base mark.length bytes.now shown)))) }
+    ensures unfailed { IfErr result (λ e. e ≢ ReadFault.StoreFault) }
+{
+    let len = footer.mark(b).length as usize;
+    match entries_of(
+        alloc,
+        footer.buckets.len() as u64,
+        b as u64,
+        base,
+        len,
+        bytes,
+    ) {
+        Ok(entries) => Ok(entries),
+        Err(fault) => Err(fault_of(number, Part::Bucket(b as u64), fault)),
+    }
+}
+
 /// The entries of bucket `b`, counted from 0, as they are stored, by one read.
 pub(crate) fn read_entries_of<R: SealedReader>(
     alloc: Global,
@@ -103,24 +163,13 @@ pub(crate) fn read_entries_of<R: SealedReader>(
         BucketShown (length footer.now.buckets) b base mark.length (bucket_in file mark) shown))))) }
     ensures reading { Reading 1 (R.view reader.old) (R.view reader.new) result }
 {
-    let mark = footer.mark(b);
-    if !is_inside(&mark, reader.length()) {
-        return Err(fault_of(
-            number,
-            Part::Bucket(b as u64),
-            PartFault::Damaged(Shown::Form),
-        ));
-    }
-    let bytes = read_piece(alloc, reader, mark.place, mark.length as usize + 32)?;
-    match entries_of(
-        alloc,
-        footer.buckets.len() as u64,
-        b as u64,
-        base,
-        mark.length as usize,
-        &bytes,
-    ) {
-        Ok(entries) => Ok(entries),
-        Err(fault) => Err(fault_of(number, Part::Bucket(b as u64), fault)),
-    }
+    let bytes = match read_bytes_of(alloc, reader, footer, number, b) {
+        Ok(bytes) => bytes,
+        Err(fault) => return Err(fault),
+    };
+    let entries = match told_entries(alloc, footer, number, base, b, &bytes) {
+        Ok(entries) => entries,
+        Err(fault) => return Err(fault),
+    };
+    Ok(entries)
 }

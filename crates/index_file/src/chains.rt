@@ -1,6 +1,7 @@
 ghost use Rattle.std.specs.Prelude.{◌≡◌, ◌<◌, ◌≤◌, ◌++◌, IfOk, OnOk, length};
+ghost use Rattle.std.specs.List.{AllByRecursion};
 ghost use Rattle.sha2.specs.Sha256.{sha256};
-ghost use Rattle.index_file.specs.Buckets.{bucket_file, bucket_of, in_bucket};
+ghost use Rattle.index_file.specs.Buckets.{bucket_file, bucket_of, in_bucket, PairFits};
 ghost use Rattle.index_file.specs.Chains.{Chained};
 
 use crate::hashing::hash;
@@ -26,6 +27,29 @@ pub(crate) fn bucket_of(key: &[u8], buckets: u64) -> u64
     hash(key) % buckets
 }
 
+// A key and a place fit the form of an entry. It does nothing.
+fn fits(key: &[u8], place: Option<Place>)
+    requires { length key.now ≤ 128 }
+    ensures { PairFits (key.now, place) }
+{
+    let Some(Place { segment, row }) = place else {
+        return;
+    };
+    let _numbers = (segment, row);
+}
+
+// The bucket of an entry among so many. Each entry fits its form.
+fn bucket_of_entry(entry: &(KeyBytes, Option<Place>), buckets: u64) -> u64
+    requires { 0 < buckets }
+    ensures of_key { result ≡ bucket_of buckets entry.now.0 }
+    ensures there { result < buckets }
+    ensures fit { PairFits entry.now }
+{
+    let key = entry.0.as_slice();
+    fits(key, entry.1);
+    bucket_of(key, buckets)
+}
+
 /// The chains of so many buckets, by one pass from the last entry to the first.
 pub(crate) fn chain_up(
     alloc: Global,
@@ -33,7 +57,8 @@ pub(crate) fn chain_up(
     buckets: usize,
 ) -> Result<Chains, AllocError>
     requires { 0 < buckets }
-    ensures { IfOk result (λ c. Chained entries.now buckets 0 c.first.items c.counts.items c.next.items) }
+    ensures chained { IfOk result (λ c. Chained entries.now buckets 0 c.first.items c.counts.items c.next.items) }
+    ensures fit { IfOk result (λ _. AllByRecursion PairFits entries.now) }
 {
     let end = entries.len();
     let mut first = vec![in alloc; end; buckets]?;
@@ -41,7 +66,7 @@ pub(crate) fn chain_up(
     let mut next = vec![in alloc; end; end]?;
     for n in 0..end {
         let i = end - 1 - n;
-        let b = bucket_of(entries[i].0.as_slice(), buckets as u64) as usize;
+        let b = bucket_of_entry(&entries[i], buckets as u64) as usize;
         next[i] = first[b];
         first[b] = i;
         counts[b] += 1;

@@ -7,17 +7,21 @@ ghost use Rattle.dev_traits.specs.declared.faults.Part.TheVariants as part;
 ghost use Rattle.index_level0.specs.Levels.{Level};
 ghost use Rattle.index_file.specs.declared.footers.IndexFooter.{IndexFooter};
 ghost use Rattle.index_file.specs.Buckets.{bucket_of, buckets_for};
-ghost use Rattle.index_file.specs.Entries.{BucketShown, HasLevel, sum_fits, sums_fit, with_base};
+ghost use Rattle.index_file.specs.Damages.{IsDamageAt};
+ghost use Rattle.index_file.specs.Entries.{BucketShown, HasLevel, IsFileOf, sum_fits, sums_fit, with_base};
 ghost use Rattle.index_file.specs.Footers.{FooterShown, HasFooter};
 ghost use Rattle.index_file.specs.Listing.{HasEntry};
+ghost use Rattle.index_file.specs.Wholes.{AreWhole};
 ghost use Rattle.index_file.specs.Reads.{bucket_in, HasFailed, HasRead, IsDamage, KnowsFooter, OfBucket, OnDamage, OnFile, Reading, TellsDamage};
 
 use crate::bucket_reads::read_entries_of;
 use crate::chains::bucket_of;
 use crate::footer_reads::read_tail;
 use crate::footers::IndexFooter;
+use crate::look_ups::{find_place, look_up};
+use crate::notes::Notes;
 use dev_traits::{ReadFault, SealedReader};
-use index_level0::{KeyBytes, Place};
+use index_level0::Place;
 use std::alloc::Global;
 
 /// An index file that is read. Its footer is that of the reader's file.
@@ -27,8 +31,11 @@ pub struct IndexFile<R: SealedReader> {
     pub(crate) base: u64,
     pub(crate) reader: R,
     pub(crate) footer: IndexFooter,
+    // The buckets that were found whole.
+    notes: Notes,
     ghost known: { ∥ KnowsFooter (R.view reader) footer ∥₁ },
     ghost numbered: { length footer.buckets ≡ buckets_for footer.entries },
+    ghost whole: { ∥ AreWhole base footer (R.view reader) notes ∥₁ },
 }
 
 impl<R: SealedReader> IndexFile<R> {
@@ -46,6 +53,7 @@ impl<R: SealedReader> IndexFile<R> {
             base,
             reader,
             footer,
+            notes: Notes::none(),
         }
     }
 
@@ -79,6 +87,7 @@ impl<R: SealedReader> IndexFile<R> {
             base: _,
             reader,
             footer: _,
+            notes: _,
         } = self;
         reader
     }
@@ -101,6 +110,10 @@ pub fn attach_index<R: SealedReader>(
 
     // A file has no other footer.
     ensures only { IfOk result (λ file. OnFile (R.view reader) (λ bytes. (f : IndexFooter) → HasFooter f bytes → file.footer ≡ f)) }
+
+    // A level's file is attached as that of the level, and no damage is told of it.
+    ensures level { IfOk result (λ file. OnFile (R.view reader) (λ bytes. (f : IndexFooter) (level : Level) → IsFileOf base f bytes level → HasLevel base file.footer (R.view file.reader) level)) }
+    ensures intact { IfErr result (λ e. TellsDamage e.1 → OnFile (R.view reader) (λ bytes. (f : IndexFooter) (level : Level) → IsFileOf base f bytes level → ⊥)) }
     ensures attached { IfOk result (λ file. HasRead 2 (R.view reader) (R.view file.reader)) }
     ensures damaged { IfErr result (λ e. OnDamage e.1 (IsDamage number part.Footer (λ shown. OnFile (R.view reader) (λ bytes. FooterShown bytes shown)))) }
     ensures refused { IfErr result (λ e. HasFailed 2 (R.view reader) (R.view e.0) e.1) }
@@ -111,49 +124,14 @@ pub fn attach_index<R: SealedReader>(
             base,
             reader,
             footer,
+            notes: Notes::none(),
         }),
         Err(fault) => Err((reader, fault)),
     }
 }
 
-/// An entry counted from a base.
-pub(crate) fn with_base(entry: Option<Place>, base: u64) -> Option<Place>
-    requires { IsTrue (sum_fits base entry) }
-    ensures { result ≡ with_base base entry }
-{
-    match entry {
-        Some(place) => Some(Place {
-            segment: base + place.segment,
-            row: place.row,
-        }),
-        None => None,
-    }
-}
-
-// What entries have at a key, as they are stored.
-fn find_entry(entries: &[(KeyBytes, Option<Place>)], key: &[u8]) -> Option<Option<Place>>
-    ensures { result ≡ find (slice_cmp nat_cmp) key.now entries.now }
-{
-    for entry in entries {
-        if key.cmp(entry.0.as_slice()).is_eq() {
-            return Some(entry.1);
-        }
-    }
-    None
-}
-
-// The same, counted from a base.
-fn find_place(entries: &[(KeyBytes, Option<Place>)], key: &[u8], base: u64) -> Option<Option<Place>>
-    requires { IsTrue (sums_fit base entries.now) }
-    ensures { result ≡ option_map (with_base base) (find (slice_cmp nat_cmp) key.now entries.now) }
-{
-    match find_entry(entries, key) {
-        Some(entry) => Some(with_base(entry, base)),
-        None => None,
-    }
-}
-
 /// What the file has at a key: its place, None for a tombstone, or nothing. It reads the file at most once: the bucket of the key.
+/// A bucket that a look-up found whole is not digested again, since the file doesn't change.
 ///
 /// # Errors
 /// `Damaged` tells the bucket: with its digests exactly where the kept one isn't that of its bytes, and else with `Form` exactly
@@ -167,9 +145,9 @@ pub fn probe<R: SealedReader>(
 
     // Of the file of a level, the level's entry.
     ensures level { IfOk result (λ entry. (level : Level) → HasLevel file.old.base file.old.footer (R.view file.old.reader) level → entry ≡ get level key.now) }
-    ensures damaged { IfErr result (λ e. OnDamage e (IsDamage file.old.number (part.Bucket (bucket_of (length file.old.footer.buckets) key.now)) (λ shown.
-        OnFile (R.view file.old.reader) (λ bytes. OfBucket file.old.footer (bucket_of (length file.old.footer.buckets) key.now) (λ mark.
-        BucketShown (length file.old.footer.buckets) (bucket_of (length file.old.footer.buckets) key.now) file.old.base mark.length (bucket_in bytes mark) shown))))) }
+
+    // The damage is that of the key's bucket.
+    ensures damaged { IfErr result (λ e. OnDamage e (IsDamageAt file.old.base file.old.footer file.old.number (R.view file.old.reader) key.now)) }
     ensures intact { IfErr result (λ e. TellsDamage e → (level : Level) → HasLevel file.old.base file.old.footer (R.view file.old.reader) level → ⊥) }
     ensures reading { Reading 1 (R.view file.old.reader) (R.view file.new.reader) result }
     ensures number { file.new.number ≡ file.old.number }
@@ -179,8 +157,17 @@ pub fn probe<R: SealedReader>(
     let b = bucket_of(key, file.footer.buckets.len() as u64) as usize;
     let number = file.number;
     let base = file.base;
+    if file.notes.has(b) {
+        match look_up(alloc, &mut file.reader, &file.footer, number, base, b, key) {
+            Ok(entry) => return Ok(entry),
+            Err(fault) => return Err(fault),
+        }
+    }
     match read_entries_of(alloc, &mut file.reader, &file.footer, number, base, b) {
-        Ok(entries) => Ok(find_place(&entries, key, base)),
+        Ok(entries) => {
+            file.notes.add(alloc, b, file.footer.buckets.len());
+            Ok(find_place(&entries, key, base))
+        }
         Err(fault) => Err(fault),
     }
 }

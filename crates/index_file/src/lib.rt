@@ -13,9 +13,12 @@ mod index_files;
 mod laws;
 mod listing;
 mod log_bodies;
+mod look_ups;
 mod making;
+mod notes;
 mod pieces;
 mod reading;
+mod seeking;
 mod writing;
 
 pub use footers::{BucketMark, IndexFooter};

@@ -14,7 +14,8 @@ ghost use Rattle.index_file.specs.Reads.{KnowsFooter, OnDamage, OnFile, Reading,
 use crate::bucket_reads::read_entries_of;
 use crate::faults::{PartFault, fault_of};
 use crate::footers::IndexFooter;
-use crate::index_files::{IndexFile, with_base};
+use crate::index_files::IndexFile;
+use crate::look_ups::with_base;
 use dev_traits::{Part, ReadFault, SealedReader, Shown};
 use index_level0::{KeyBytes, Place};
 use std::alloc::{AllocError, Global};

@@ -1,11 +1,12 @@
 ghost use Rattle.std.specs.Prelude.{◌≡◌, ◌+◌, ◌<◌, ◌^◌, ◌++◌, ℕ, List, Some, T, IfOk, IfSome, OnOk, IsTrue, IsFalse, is_some, length};
-ghost use Rattle.std.specs.List.{flat_map};
+ghost use Rattle.std.specs.List.{AllByRecursion, flat_map};
 ghost use Rattle.std.specs.FinMap.{from_sorted, is_sorted};
 ghost use Rattle.std.specs.Cmp.Lexicographic.{slice_cmp};
 ghost use Rattle.std.specs.Ordering.{nat_cmp};
 ghost use Rattle.dev_traits.specs.Causes.{HasMakeCause};
-ghost use Rattle.index_file.specs.Buckets.{bucket_body, bucket_file, buckets_for, buckets_of, footer_body, footer_of, in_bucket, index_file, mark_bytes, marks_from, tail_of};
+ghost use Rattle.index_file.specs.Buckets.{bucket_body, bucket_file, buckets_for, buckets_of, footer_body, footer_of, in_bucket, index_file, mark_bytes, marks_from, PairFits, tail_of};
 ghost use Rattle.index_file.specs.Chains.{Chained};
+ghost use Rattle.index_file.specs.Entries.{IsFileOf};
 ghost use Rattle.index_file.specs.Making.{Adds, MakeStep};
 
 use crate::chains::{Chains, bucket_bytes, chain_up, push_digest};
@@ -72,6 +73,8 @@ fn put_buckets<M: FileMaker>(
     requires rise { T (is_sorted (slice_cmp nat_cmp) entries.now) }
     ensures added { OnOk result (Adds (flat_map bucket_file (buckets_of (from_sorted entries.now))) (M.view maker.old) (M.view maker.new)) }
     ensures marks { IfOk result (λ marks. marks ≡ marks_from 0 (buckets_of (from_sorted entries.now))) }
+    ensures fit { IfOk result (λ _. AllByRecursion PairFits entries.now) }
+    ensures few { IfOk result (λ _. length entries.now < 2 ^ 64) }
     ensures step { MakeStep (M.view maker.old) (M.view maker.new) result }
 {
     let buckets = buckets_for(entries.len() as u64) as usize;
@@ -135,6 +138,9 @@ pub fn write_index<M: FileMaker>(
     requires { T (is_sorted (slice_cmp nat_cmp) entries.now) }
     ensures footer { IfOk result (λ made. made.footer ≡ footer_of (from_sorted entries.now)) }
     ensures sealed { IfOk result (λ made. (bytes : List ℕ) → M.sealed_bytes made.sealed ≡ Some bytes → bytes ≡ index_file (from_sorted entries.now)) }
+
+    // Attached with the base 0, the file has exactly these entries.
+    ensures file { IfOk result (λ made. (bytes : List ℕ) → M.sealed_bytes made.sealed ≡ Some bytes → IsFileOf 0 made.footer bytes (from_sorted entries.now)) }
 
     // Where the maker tells its bytes, so does the file.
     ensures told { IfOk result (λ made. is_some (M.sealed_bytes made.sealed) ≡ is_some (M.view maker.old).made) }

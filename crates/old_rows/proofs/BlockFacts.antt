@@ -1,22 +1,18 @@
 -- A row of a block is that of its file, and a live one of the snapshot.
-use Rattle.std.proofs.Common.{◌≡◌, ◌≢◌, inl, inr, refl, ap, sym, subst, ◌∙◌, ℕ, zero, suc, ◌+◌, ◌*◌, ◌/◌, ◌%◌, ◌<◌, ◌≤◌, List, [], ◌∷◌, map, length, take, drop, Option, Some, None, is_some, Bool as Truth, true, false, ◌||◌, ◌==◌, cond, slice_get, arith}
-use Rattle.std.specs.List.{list_any, AllByRecursion}
+use Rattle.std.proofs.Common.{◌≡◌, inl, inr, refl, ap, sym, subst, ◌∙◌, ℕ, zero, suc, ◌+◌, ◌*◌, ◌/◌, ◌%◌, ◌<◌, ◌≤◌, List, [], ◌∷◌, map, length, take, drop, Some, None, is_some, Bool as Truth, true, false, ◌||◌, ◌==◌, cond, slice_get, arith}
+use Rattle.std.specs.List.{list_any}
 use Rattle.std.proofs.lemmas.Bool.{eq-eqb, eqb-true}
-use Rattle.dev_traits.specs.declared.faults.Damaged.{Damaged}
-use Rattle.pk_values.specs.Schemas.{Layout, key_of}
+use Rattle.pk_values.specs.Schemas.{Layout}
 use Rattle.pk_values.specs.declared.cells.Value.{Value}
 use Rattle.index_level0.specs.declared.place.Place.{Place}
-use Rattle.rowsets.specs.Live.{Files, FilesOnce, HasKey, Part, is_dead, live, names}
+use Rattle.rowsets.specs.Live.{Files, FilesOnce, HasKey, is_dead, live, names}
 use Rattle.rowsets.proofs.LiveFacts.{live-named}
 use Rattle.snapshot_scan.specs.Parts.{AreWrittenIn, IsBlockOf, IsPieceOf, PartView, block_at}
 use Rattle.snapshot_scan.specs.Snapshots.{SnapshotView}
 use Rattle.snapshot_scan.proofs.PartFacts.{piece_long}
-use Rattle.partial_loads.specs.declared.folds.Folded.{Folded}
 use Rattle.old_rows.specs.PartsByFile.{FindsParts, found_part}
-use Rattle.old_rows.specs.Reading.{AreTold, IsLost, IsOldRow, IsWrongIn, TellsRows, index_damage, live_at, part_seen}
-use Rattle.old_rows.specs.Taking.{AreGiven, IsNotThere, IsTaken, MissesOne}
-use Rattle.old_rows.specs.Wanted.{Block, block_of}
-use Rattle.old_rows.specs.declared.wanted.Wanted.{Wanted}
+use Rattle.old_rows.specs.Reading.{AreTold, IsOldRow, IsWrongIn, TellsRows, live_at, part_seen}
+use Rattle.old_rows.specs.Taking.{IsNotThere, IsTaken}
 
 some_same : {X : Type 0} (x y : X) → Some x ≡ Some y → x ≡ y
 some_same x y e = cc

@@ -1,8 +1,7 @@
 -- Old rows are filled in, one after the other.
-use Rattle.std.proofs.Common.{◌≡◌, ◌≢◌, refl, ap, sym, subst, ◌∙◌, ℕ, zero, suc, ◌+◌, ◌<◌, ◌≤◌, List, [], ◌∷◌, ◌++◌, length, take, Option, Some, None, Bool as Truth, true, false, ◌==◌, ◌||◌, slice_get, slice_set, get_or, arith, append_assoc, length-set}
+use Rattle.std.proofs.Common.{◌≡◌, ◌≢◌, refl, ap, sym, subst, ◌∙◌, ℕ, zero, suc, ◌<◌, List, [], ◌∷◌, ◌++◌, length, Option, Some, Bool as Truth, true, false, ◌==◌, slice_get, slice_set, arith, length-set}
 use Rattle.std.specs.List.{AllByRecursion}
 use Rattle.std.proofs.lemmas.Bool.{eqb-false, eqb-true}
-use Rattle.std.proofs.lemmas.List.{append-nil, take_more}
 use Rattle.pk_values.specs.Schemas.{Layout, fits_row, key_of}
 use Rattle.std.specs.Prelude.{IsTrue}
 use Rattle.pk_values.specs.declared.cells.Value.{Value}
@@ -10,7 +9,7 @@ use Rattle.snapshot_scan.specs.Snapshots.{SnapshotView}
 use Rattle.partial_loads.specs.declared.folds.Folded.{Folded}
 use Rattle.index_level0.specs.declared.place.Place.{Place}
 use Rattle.snapshot_scan.specs.Parts.{PartView}
-use Rattle.old_rows.specs.Reading.{AreFilled, IsOldRow, IsWantedRow, Olds, SameButCounts, StandsAt, StandsIn, live_at, still}
+use Rattle.old_rows.specs.Reading.{AreFilled, IsOldRow, IsWantedRow, Olds, SameButCounts, StandsAt, StandsIn, still}
 use Rattle.old_rows.specs.declared.wanted.Wanted.{Wanted}
 use Rattle.old_rows.proofs.StillFacts.{live-same, numbers-same, part-before, tells-same}
 

@@ -1,23 +1,20 @@
 -- Runs of wanted rows are read one after the other.
-use Rattle.std.proofs.Common.{◌≡◌, ◌⊎◌, inl, inr, refl, ap, sym, subst, ◌∙◌, ℕ, zero, suc, ◌+◌, ◌/◌, ◌<◌, ◌≤◌, List, [], ◌∷◌, ◌++◌, map, length, take, drop, get_or, Option, Some, None, cond, slice_get, arith}
-use Rattle.std.specs.Prelude.{All, Result, IsErrOf}
-use Rattle.std.specs.List.{AllByRecursion}
+use Rattle.std.proofs.Common.{◌≡◌, inl, inr, refl, ap, sym, subst, ◌∙◌, ℕ, zero, suc, ◌+◌, ◌/◌, ◌≤◌, List, [], ◌∷◌, map, length, take, drop, Some, slice_get, arith}
+use Rattle.std.specs.Prelude.{Result}
 use Rattle.dev_traits.specs.declared.faults.Damaged.{Damaged}
 use Rattle.dev_traits.specs.declared.faults.ReadFault.{ReadFault}
-use Rattle.dev_traits.specs.declared.faults.ReadFault.TheVariants as read
 use Rattle.pk_values.specs.Schemas.{Layout, key_of}
 use Rattle.pk_values.specs.declared.cells.Value.{Value}
 use Rattle.index_level0.specs.declared.place.Place.{Place}
-use Rattle.rowsets.specs.Live.{Files, HasKey}
 use Rattle.rowsets.specs.Scans.{Piece}
 use Rattle.snapshot_scan.specs.Parts.{IsPieceOf, PartView}
 use Rattle.snapshot_scan.specs.Scans.{IsBlockDamage}
-use Rattle.snapshot_scan.specs.Snapshots.{SnapshotView, fault_count}
+use Rattle.snapshot_scan.specs.Snapshots.{SnapshotView}
 use Rattle.partial_loads.specs.declared.folds.Folded.{Folded}
-use Rattle.old_rows.specs.Reading.{IsBroken, IsLost, IsReadingDamage, IsWrongIn, IsWrongPlace, ReadBlocks, ReadsCause, SameButCounts, TellsRows, live_at, still}
-use Rattle.old_rows.specs.Wanted.{Block, blocks_in, block_of, place_wanted, runs}
+use Rattle.old_rows.specs.Reading.{IsReadingDamage, IsWrongIn, IsWrongPlace, ReadBlocks, ReadsCause, SameButCounts, still}
+use Rattle.old_rows.specs.Wanted.{Block, blocks_in, place_wanted, runs}
 use Rattle.old_rows.specs.declared.wanted.Wanted.{Wanted}
-use Rattle.old_rows.proofs.StillFacts.{live-same, numbers-same, part-before, same-back, tells-same}
+use Rattle.old_rows.proofs.StillFacts.{live-same, numbers-same, part-before, tells-same}
 
 some_same : {X : Type 0} (x y : X) → Some x ≡ Some y → x ≡ y
 some_same x y e = cc

@@ -1,5 +1,5 @@
 -- One block was read: what is the same then, what is counted, and what is taken of it.
-use Rattle.std.proofs.Common.{◌≡◌, ◌≢◌, refl, ap, sym, subst, ◌∙◌, ℕ, ◌+◌, ◌/◌, ◌<◌, List, [], ◌∷◌, ◌++◌, length, Option, Some, IfSome, slice_get}
+use Rattle.std.proofs.Common.{◌≡◌, ◌≢◌, ap, sym, subst, ◌∙◌, ℕ, ◌/◌, ◌<◌, List, [], ◌∷◌, ◌++◌, length, Some, IfSome, slice_get}
 use Rattle.std.specs.Prelude.{Err, IfErr, IsErrOf, Ok, Result}
 use Rattle.dev_traits.specs.declared.faults.Damaged.{Damaged}
 use Rattle.dev_traits.specs.declared.faults.ReadFault.{ReadFault}
@@ -86,7 +86,7 @@ module _ (v w : SnapshotView) (keys : List Folded) (wanted : List Wanted) (some 
     (are : IfSome (slice_get v.parts i) (λ part. AreWrittenIn v.schema part ((first_place wanted).row / 1024) rows))
     (bytes : IfSome (slice_get v.parts i) (λ part. IsBlockOf v.schema part ((first_place wanted).row / 1024) rows))
     (inside : IfSome (slice_get v.parts i) (λ part. (first_place wanted).row / 1024 < length part.footer.blocks))
-    (s : Layout) (s_is : s ≡ w.schema) (dead : List ℕ) (dead_is : IfSome (slice_get w.parts i) (λ part. dead ≡ part.dead)) where
+    (s : Layout) (s_is : s ≡ w.schema) (taken : List (List Value)) (taken_is : taken ≡ rows) (dead : List ℕ) (dead_is : IfSome (slice_get w.parts i) (λ part. dead ≡ part.dead)) where
   schema-is : s ≡ v.schema
   schema-is = s_is ∙ same.schema
 
@@ -102,12 +102,12 @@ module _ (v w : SnapshotView) (keys : List Folded) (wanted : List Wanted) (some 
   inside-in : (first_place wanted).row / 1024 < length is.part.footer.blocks
   inside-in = some-part v.parts (first_place wanted).segment i (λ part. (first_place wanted).row / 1024 < length part.footer.blocks) is inside
 
-  pub block-fills : (old new : Olds) → FillsMore s rows dead keys wanted old new → (done : List Wanted) → AreFilled v keys done old → AreFilled v keys (done ++ wanted) new
+  pub block-fills : (old new : Olds) → FillsMore s taken dead keys wanted old new → (done : List Wanted) → AreFilled v keys done old → AreFilled v keys (done ++ wanted) new
   block-fills old new more =
       fills v keys wanted some have one i is rows are-in bytes-in inside-in old new
-      (subst (λ x. FillsMore x rows is.part.dead keys wanted old new) schema-is (subst (λ d. FillsMore s rows d keys wanted old new) dead-same more))
+      (subst (λ x. FillsMore x rows is.part.dead keys wanted old new) schema-is (subst (λ d. FillsMore s rows d keys wanted old new) dead-same (subst (λ rs. FillsMore s rs dead keys wanted old new) taken_is more)))
 
-  pub block-misses : (e : ReadFault) → MayMiss s rows dead keys wanted e → OnDamage e (IsReadingDamage v keys wanted)
+  pub block-misses : (e : ReadFault) → MayMiss s taken dead keys wanted e → OnDamage e (IsReadingDamage v keys wanted)
   block-misses e may =
       misses v keys wanted some have one i is rows are-in bytes-in inside-in e
-      (subst (λ x. MayMiss x rows is.part.dead keys wanted e) schema-is (subst (λ d. MayMiss s rows d keys wanted e) dead-same may))
+      (subst (λ x. MayMiss x rows is.part.dead keys wanted e) schema-is (subst (λ d. MayMiss s rows d keys wanted e) dead-same (subst (λ rs. MayMiss s rs dead keys wanted e) taken_is may)))

@@ -1,7 +1,6 @@
 -- Parts are put in one after the other, by the numbers of their files.
 use Rattle.std.proofs.Common.{◌≡◌, ◌⊎◌, inl, inr, refl, ap, sym, subst, ◌∙◌, ℕ, zero, suc, ◌+◌, ◌<◌, ◌≤◌, List, [], ◌∷◌, length, IfSome, Option, Some, None, Bool as Truth, true, false, ◌==◌, cond, is_some, nat_lt, slice_get, arith}
 use Rattle.std.specs.Ordering.{is_eq, nat_cmp}
-use Rattle.std.specs.declared.cmp.Ordering.{Ordering}
 use Rattle.std.specs.declared.cmp.Ordering.TheVariants.{Less, Equal, Greater}
 use Rattle.std.proofs.lemmas.Bool.{cases_order, eq-eqb, eqb-true, ltb-true}
 use Rattle.snapshot_scan.specs.Parts.{PartView}

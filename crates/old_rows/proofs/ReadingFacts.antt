@@ -1,12 +1,14 @@
 -- What reading one block for its wanted rows comes to, and how it fails.
-use Rattle.std.proofs.Common.{◌≡◌, ◌≢◌, ◌⊎◌, inl, inr, refl, ap, sym, subst, ◌∙◌, ℕ, zero, suc, ◌+◌, ◌/◌, ◌%◌, ◌<◌, ◌≤◌, List, [], ◌∷◌, ◌++◌, length, get_or, Option, Some, None, IfSome, slice_get, arith}
-use Rattle.std.specs.Prelude.{All, Err, IfErr, Ok, Result}
+use Rattle.std.proofs.Common.{◌≡◌, inl, inr, refl, ap, sym, subst, ◌∙◌, ℕ, zero, suc, ◌/◌, ◌<◌, ◌≤◌, List, [], ◌∷◌, ◌++◌, length, get_or, Some, None, IfSome, slice_get, true, arith}
+use Rattle.std.specs.Prelude.{All}
 use Rattle.std.proofs.lemmas.Option.{slice_get-get_or}
+use Rattle.column_page.specs.Footers.{is_footer}
+use Rattle.column_page.specs.declared.footers.Footer.{Footer}
+use Rattle.segment_read.proofs.FooterFacts.{row_inside}
 use Rattle.dev_traits.specs.declared.faults.Damaged.{Damaged}
 use Rattle.dev_traits.specs.declared.faults.ReadFault.{ReadFault}
 use Rattle.dev_traits.specs.declared.faults.ReadFault.TheVariants as read
 use Rattle.index_level0.specs.declared.place.Place.{Place}
-use Rattle.pk_values.specs.Schemas.{Layout}
 use Rattle.pk_values.specs.declared.cells.Value.{Value}
 use Rattle.rowsets.specs.Live.{Files, HasKey}
 use Rattle.segment_read.specs.Reads.{OnDamage}
@@ -16,8 +18,8 @@ use Rattle.snapshot_scan.specs.Snapshots.{SnapshotView}
 use Rattle.partial_loads.specs.declared.changes.KeyChange.TheVariants.{Keep}
 use Rattle.partial_loads.specs.declared.folds.Folded.{Folded}
 use Rattle.old_rows.specs.PartsByFile.{FindsParts, IsPartOfFile, found_part}
-use Rattle.old_rows.specs.Reading.{AreFilled, HaveKeys, IsLost, IsReadingDamage, IsWrongPlace, Olds, TellsRows, index_damage, live_at}
-use Rattle.old_rows.specs.Taking.{FillsMore, MayMiss, MissesOne}
+use Rattle.old_rows.specs.Reading.{AreFilled, HaveKeys, IsReadingDamage, IsWrongPlace, Olds, TellsRows, index_damage, live_at}
+use Rattle.old_rows.specs.Taking.{FillsMore, MayMiss}
 use Rattle.old_rows.specs.Wanted.{InOneBlock, block_of}
 use Rattle.old_rows.specs.declared.parts_by_file.PartsByFile.{PartsByFile}
 use Rattle.old_rows.specs.declared.wanted.Wanted.{Wanted}
@@ -46,6 +48,13 @@ some-part ps file i P is h = subst (λ o. IfSome o P) is.there h
 
 pub to-part : (ps : List PartView) (file i : ℕ) (P : PartView → Type 0) (is : IsPartOfFile ps file i) → P is.part → IfSome (slice_get ps i) P
 to-part ps file i P is h = subst (λ o. IfSome o P) (sym is.there) h
+
+-- the block of a row that the file has
+pub block-there : (v : SnapshotView) (wanted : List Wanted) (i : ℕ) (is : IsPartOfFile v.parts (first_place wanted).segment i) (footer : Footer) → footer ≡ is.part.footer → is_footer footer ≡ true
+    → (first_place wanted).row < footer.rows → IfSome (slice_get v.parts i) (λ part. (first_place wanted).row / 1024 < length part.footer.blocks)
+block-there v wanted i is footer same valid lt =
+    to-part v.parts (first_place wanted).segment i (λ part. (first_place wanted).row / 1024 < length part.footer.blocks) is
+    (subst (λ (f : Footer). (first_place wanted).row / 1024 < length f.blocks) same (row_inside footer (first_place wanted).row valid lt).0)
 
 pub on-damage : (e : ReadFault) (P : Damaged → Type 0) → e ≡ read.Damaged index_damage → P index_damage → OnDamage e P
 on-damage e P is h = subst (λ x. OnDamage x P) (sym is) h

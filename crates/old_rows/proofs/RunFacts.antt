@@ -1,5 +1,5 @@
 -- The blocks in which rows stand that are gone through in the order of their places.
-use Rattle.std.proofs.Common.{◌≡◌, ◌⊎◌, inl, inr, refl, ap, sym, subst, ◌∙◌, ℕ, zero, suc, ◌+◌, ◌/◌, ◌<◌, ◌≤◌, List, [], ◌∷◌, ◌++◌, map, length, take, drop, get_or, Bool as Truth, true, false, ◌&&◌, ◌==◌, nat_lt, cond, arith, add-one}
+use Rattle.std.proofs.Common.{◌≡◌, inl, inr, refl, ap, sym, subst, ◌∙◌, ℕ, zero, suc, ◌+◌, ◌/◌, ◌<◌, ◌≤◌, List, [], ◌∷◌, map, length, take, drop, get_or, Bool as Truth, true, false, ◌&&◌, ◌==◌, nat_lt, cond, arith, add-one}
 use Rattle.std.specs.Prelude.{All, ⊤}
 use Rattle.std.specs.Ordering.{is_lt, nat_cmp, ordering_then}
 use Rattle.std.specs.declared.cmp.Ordering.{Ordering}

@@ -1,12 +1,11 @@
 -- A run of wanted rows among all: it stands in one block, and what was filled in and read with it.
 use Rattle.std.proofs.Common.{◌≡◌, refl, ap, sym, subst, ◌∙◌, ℕ, zero, suc, ◌+◌, ◌-◌, ◌<◌, ◌≤◌, List, [], ◌∷◌, ◌++◌, map, length, take, drop, arith}
-use Rattle.std.specs.Prelude.{All, Err, IfErr, IsErrOf, Ok, Result}
+use Rattle.std.specs.Prelude.{All, Ok, Result}
 use Rattle.std.proofs.lemmas.List.Elements.{All-cons, All-nil}
 use Rattle.dev_traits.specs.declared.faults.ReadFault.{ReadFault}
 use Rattle.dev_traits.specs.declared.faults.ReadFault.TheVariants as read
 use Rattle.segment_read.specs.Reads.{OnDamage}
-use Rattle.snapshot_scan.specs.Parts.{PartView}
-use Rattle.snapshot_scan.specs.Snapshots.{SnapshotView, fault_count}
+use Rattle.snapshot_scan.specs.Snapshots.{SnapshotView}
 use Rattle.partial_loads.specs.declared.folds.Folded.{Folded}
 use Rattle.old_rows.specs.Reading.{AreFilled, HaveKeys, IsReadingDamage, Olds, ReadBlocks, ReadsCause, SameButCounts}
 use Rattle.old_rows.specs.Wanted.{InOneBlock, IsRun, block_of, place_wanted, runs}
@@ -25,16 +24,22 @@ all-take P zero ws h = All-nil P
 all-take P (suc n) [] h = h
 all-take P (suc n) (w ∷ ws) h = All-cons P w (take n ws) (h 0 w (omega arith)) (all-take P n ws (λ i d lt. h (suc i) d (omega arith)))
 
+drop-none : (n : ℕ) → drop {A = Wanted} n [] ≡ []
+drop-none zero = refl
+drop-none (suc n) = refl
+
+take-none : (n : ℕ) → take {A = Wanted} n [] ≡ []
+take-none zero = refl
+take-none (suc n) = refl
+
 drop-drop : (n m : ℕ) (ws : List Wanted) → drop m (drop n ws) ≡ drop (n + m) ws
 drop-drop zero m ws = let e : m ≡ 0 + m = omega arith in ap (λ k. drop k ws) e
-drop-drop (suc n) zero [] = refl
-drop-drop (suc n) (suc m) [] = refl
+drop-drop (suc n) m [] = drop-none m ∙ sym (drop-none (suc n + m))
 drop-drop (suc n) m (w ∷ ws) = let e : suc (n + m) ≡ suc n + m = omega arith in drop-drop n m ws ∙ ap (λ k. drop k (w ∷ ws)) e
 
 take-take : (n m : ℕ) (ws : List Wanted) → take n ws ++ take m (drop n ws) ≡ take (n + m) ws
 take-take zero m ws = let e : m ≡ 0 + m = omega arith in ap (λ k. take k ws) e
-take-take (suc n) zero [] = refl
-take-take (suc n) (suc m) [] = refl
+take-take (suc n) m [] = take-none m ∙ sym (take-none (suc n + m))
 take-take (suc n) m (w ∷ ws) = let e : suc (n + m) ≡ suc n + m = omega arith in ap (λ xs. w ∷ xs) (take-take n m ws) ∙ ap (λ k. take k (w ∷ ws)) e
 
 some-left : (n : ℕ) (ws : List Wanted) → n < length ws → (u : Wanted) × (us : List Wanted) × (drop n ws ≡ u ∷ us)

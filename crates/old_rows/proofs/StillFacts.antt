@@ -1,21 +1,17 @@
 -- What reading one block leaves of a snapshot, and what is counted.
-use Rattle.std.proofs.Common.{◌≡◌, ◌≢◌, refl, ap, sym, subst, ◌∙◌, ℕ, zero, suc, ◌+◌, ◌-◌, ◌^◌, ◌<◌, ◌≤◌, min, List, [], ◌∷◌, map, length, Option, Some, None, Bool as Truth, true, false, ◌==◌, cond, is_some, slice_get, slice_set, ◌⊎◌, inl, inr, arith}
-use Rattle.std.specs.Prelude.{Result, Ok, Err, IsErrOf, MatchResult}
-use Rattle.std.specs.List.{AllByRecursion}
+use Rattle.std.proofs.Common.{◌≡◌, refl, ap, sym, subst, ◌∙◌, ℕ, zero, suc, ◌+◌, ◌-◌, ◌^◌, ◌≤◌, min, List, [], ◌∷◌, map, length, Some, true, cond, is_some, slice_get, slice_set, ◌⊎◌, inl, inr, arith}
+use Rattle.std.specs.Prelude.{Result, Ok, Err, IsErrOf}
 use Rattle.std.proofs.lemmas.Bool.{eq-eqb}
-use Rattle.dev_traits.specs.Causes.{Counts}
 use Rattle.dev_traits.specs.Reader.{ReaderView, SameFile}
 use Rattle.dev_traits.specs.declared.faults.ReadFault.{ReadFault}
 use Rattle.dev_traits.specs.declared.faults.ReadFault.TheVariants as read
-use Rattle.segment_read.specs.Reads.{HasFailed, HasRead, Reading}
+use Rattle.segment_read.specs.Reads.{Reading}
 use Rattle.pk_values.specs.Schemas.{Layout}
-use Rattle.pk_values.specs.declared.cells.Value.{Value}
-use Rattle.rowsets.specs.Live.{Files, FilesOnce, Live, live}
-use Rattle.rowsets.specs.Scans.{Piece}
-use Rattle.snapshot_scan.specs.Parts.{IsPieceOf, PartView, read_by}
-use Rattle.snapshot_scan.specs.Snapshots.{ReadsPart, SnapshotView, fault_count}
-use Rattle.old_rows.specs.PartsByFile.{FindsParts, IsPartOfFile, found_part}
-use Rattle.old_rows.specs.Reading.{AreTold, OneMore, ReadBlocks, ReadsCause, SameButCounts, TellsRows, live_at, part_seen, still}
+use Rattle.rowsets.specs.Live.{Files, FilesOnce, live}
+use Rattle.snapshot_scan.specs.Parts.{PartView, read_by}
+use Rattle.snapshot_scan.specs.Snapshots.{SnapshotView, fault_count}
+use Rattle.old_rows.specs.PartsByFile.{FindsParts, found_part}
+use Rattle.old_rows.specs.Reading.{AreTold, ReadBlocks, ReadsCause, SameButCounts, TellsRows, live_at, part_seen, still}
 use Rattle.old_rows.specs.Wanted.{Block, blocks_in}
 
 -- ---- the same but for counts

@@ -1,5 +1,5 @@
 -- Rows of one block are taken one after the other.
-use Rattle.std.proofs.Common.{◌≡◌, inl, inr, refl, ap, sym, subst, ◌∙◌, ℕ, zero, suc, ◌+◌, ◌<◌, ◌≤◌, ◌%◌, ◌==◌, Bool as Truth, true, false, List, [], ◌∷◌, ◌++◌, length, take, get_or, Option, Some, slice_get, slice_set, append_assoc, append-nil, arith}
+use Rattle.std.proofs.Common.{◌≡◌, inr, refl, ap, sym, subst, ◌∙◌, ℕ, zero, suc, ◌+◌, ◌<◌, ◌≤◌, ◌%◌, ◌==◌, Bool as Truth, true, false, List, [], ◌∷◌, ◌++◌, length, take, get_or, Some, slice_get, slice_set, append_assoc, append-nil, arith}
 use Rattle.std.proofs.lemmas.List.{take_more}
 use Rattle.std.proofs.lemmas.Option.{slice_get-get_or}
 use Rattle.std.specs.Prelude.{All, IsTrue}
@@ -28,6 +28,9 @@ clash b e f = cc (sym e ∙ f)
 
 pub at-index : {X : Type 0} (xs : List X) (i : ℕ) (x : X) → i < length xs → x ≡ get_or xs i x → slice_get xs i ≡ Some x
 at-index xs i x lt is = slice_get-get_or xs i x lt ∙ ap Some (sym is)
+
+pub taken-key : (s : Layout) (rows : List (List Value)) (dead : List ℕ) (row : ℕ) (f g : Folded) (found : List Value) → f ≡ g → IsTaken s rows dead row g.key found → IsTaken s rows dead row f.key found
+taken-key s rows dead row f g found e h = subst (λ (x : Folded). IsTaken s rows dead row x.key found) (sym e) h
 
 -- the first of these are filled in
 abbrev pub FillsFirst : Layout → List (List Value) → List ℕ → List Folded → List Wanted → List Wanted → Olds → Olds → Type 0
@@ -61,9 +64,12 @@ pub is-missing : (s : Layout) (rows : List (List Value)) (dead : List ℕ) (row 
     → slice_get rows (row % 1024) ≡ Some there → eq_by_cmp key_cmp (key_of s there) key ≡ false → IsMissing s rows dead row key e
 is-missing s rows dead row key e is there at other = subst (IsMissing s rows dead row key) (sym is) (record {
   unfailed = λ same. cc;
-  damage = (refl, inr (λ found has same.
-      let row_is : there ≡ found = some_same there found (sym at ∙ has) in
-      clash (eq_by_cmp key_cmp (key_of s there) key) (ap (λ k. eq_by_cmp key_cmp k key) (ap (key_of s) row_is ∙ same) ∙ (eq_by_cmp_equiv key_total).refl key) other));
+  damage = (
+    refl,
+    inr (λ found has same.
+        let row_is : there ≡ found = some_same there found (sym at ∙ has) in
+        clash (eq_by_cmp key_cmp (key_of s there) key) (ap (λ k. eq_by_cmp key_cmp k key) (ap (key_of s) row_is ∙ same) ∙ (eq_by_cmp_equiv key_total).refl key) other),
+  );
 })
 
 pub is-taken : (s : Layout) (rows : List (List Value)) (dead : List ℕ) (row : ℕ) (key there found : List Value) → All (λ row. IsTrue (fits_row s row)) rows

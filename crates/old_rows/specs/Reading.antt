@@ -1,15 +1,12 @@
 -- What the old rows of keys are read as, of a snapshot.
-use Rattle.std.specs.Prelude.{◌≡◌, ◌≢◌, ◌⊎◌, ℕ, ◌+◌, ◌-◌, ◌^◌, ◌/◌, ◌%◌, ◌<◌, ◌≤◌, min, List, [], ◌∷◌, ◌++◌, map, length, Option, Some, None, Bool as Truth, true, false, ◌==◌, slice_get, slice_set, All, IsTrue, Result, IsErrOf, ⊤}
+use Rattle.std.specs.Prelude.{◌≡◌, ◌⊎◌, ℕ, ◌+◌, ◌-◌, ◌^◌, ◌/◌, ◌%◌, ◌<◌, ◌≤◌, min, List, map, length, Option, Some, true, false, ◌==◌, slice_get, All, IsTrue, Result, IsErrOf}
 use Rattle.std.specs.List.{list_any, AllByRecursion}
-use Rattle.std.specs.FinMap.{get}
-use Rattle.dev_traits.specs.Reader.{ReaderView}
 use Rattle.dev_traits.specs.Causes.{Counts}
 use Rattle.dev_traits.specs.declared.faults.Damaged.{Damaged}
 use Rattle.dev_traits.specs.declared.faults.ReadFault.{ReadFault}
 use Rattle.dev_traits.specs.declared.faults.ReadFault.TheVariants as read
 use Rattle.pk_values.specs.Schemas.{Layout, fits_row, key_of}
 use Rattle.pk_values.specs.declared.cells.Value.{Value}
-use Rattle.pk_model.specs.Tables.{Rows}
 use Rattle.index_level0.specs.declared.place.Place.{Place}
 use Rattle.dev_traits.specs.declared.faults.Part.TheVariants as part
 use Rattle.dev_traits.specs.declared.faults.Shown.TheVariants as shown
@@ -17,9 +14,9 @@ use Rattle.rowsets.specs.Live.{Files, FilesOnce, HasKey, Live, Part, live}
 use Rattle.rowsets.specs.Scans.{Piece}
 use Rattle.segment_read.specs.Blocks.{AreTheRows}
 use Rattle.segment_read.specs.Reads.{OfBlock, OfFile, block_in}
-use Rattle.snapshot_scan.specs.Parts.{IsPieceOf, PartView, read_by}
+use Rattle.snapshot_scan.specs.Parts.{IsPieceOf, PartView}
 use Rattle.snapshot_scan.specs.Scans.{IsBlockDamage}
-use Rattle.snapshot_scan.specs.Snapshots.{SnapshotView, fault_count}
+use Rattle.snapshot_scan.specs.Snapshots.{SnapshotView}
 use Rattle.partial_loads.specs.declared.folds.Folded.{Folded}
 use Rattle.rowsets.specs.Indexing.{CodeMove}
 use Rattle.old_rows.specs.Wanted.{AreWanted, Block, BlocksRise, asked, block_of, blocks_in}

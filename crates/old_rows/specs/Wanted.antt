@@ -1,6 +1,6 @@
 -- Which old rows the changes of a load's keys ask for, and in which blocks they stand.
-use Rattle.std.specs.Prelude.{◌≡◌, ◌⊎◌, ℕ, ◌+◌, ◌/◌, ◌<◌, ◌≤◌, List, [], ◌∷◌, ◌++◌, map, length, take, drop, Option, Some, None, Bool as Truth, true, false, ◌&&◌, ◌==◌, cond, slice_get, count_by, All, ⊤}
-use Rattle.std.specs.List.{list_any, AllByRecursion}
+use Rattle.std.specs.Prelude.{◌≡◌, ◌⊎◌, ℕ, ◌+◌, ◌/◌, ◌<◌, ◌≤◌, List, [], ◌∷◌, map, length, take, drop, Option, Some, None, Bool as Truth, true, ◌&&◌, ◌==◌, cond, slice_get, All, ⊤}
+use Rattle.std.specs.List.{list_any}
 use Rattle.index_level0.specs.declared.place.Place.{Place}
 use Rattle.rowsets.specs.Indexing.{CodeMove}
 use Rattle.partial_loads.specs.Folds.{overlays}

@@ -24,11 +24,7 @@ fn asked(key: &Folded, located: &(KeyBytes, Option<Place>)) -> Option<Place>
 }
 
 // Adds the row at a place, if there is one, as that of a key.
-fn add_wanted(
-    wanted: &mut Vec<Wanted>,
-    place: Option<Place>,
-    key: usize,
-) -> Result<(), AllocError>
+fn add_wanted(wanted: &mut Vec<Wanted>, place: Option<Place>, key: usize) -> Result<(), AllocError>
     ensures { OnOk result (wanted.new.items ≡ wanted.old.items ++ wanted_at key place) }
 {
     match place {

@@ -1,6 +1,6 @@
 -- What is told of files while they are read, and which of them counts a fault.
 use Rattle.std.proofs.Common.{◌≡◌, refl, ap, sym, subst, ◌∙◌, ℕ, suc, zero, ◌+◌, ◌-◌, ◌<◌, arith, List, [], ◌∷◌, ◌++◌, drop, take, reverse, append_assoc, length, map, get_or, slice_set, Err, Ok, inl, inr}
-use Rattle.std.specs.Prelude.{IsErrOf, Result}
+use Rattle.std.specs.Prelude.{Result}
 use Rattle.std.proofs.lemmas.List.{drop_more, length-append, reverse-append, take_more}
 use Rattle.std.proofs.Math.Seq.{map-set_same}
 use Rattle.dev_traits.specs.Causes.{Counts, HasReadCause}

@@ -1,5 +1,5 @@
 -- Some of the entries, which stay in the order of their keys.
-use Rattle.std.proofs.Common.{◌≡◌, ap, subst, sym, ◌∙◌, List, [], ◌∷◌, Bool as Truth, true, false, cond, T, ◌&&◌, ℕ}
+use Rattle.std.proofs.Common.{◌≡◌, ◌∙◌, List, [], ◌∷◌, Bool as Truth, true, false, cond, T, ◌&&◌, ℕ}
 use Rattle.std.specs.List.{filter}
 use Rattle.std.specs.FinMap.{entries, entries-from_sorted, from_sorted, is_sorted, same_entries_map}
 use Rattle.std.specs.FinMap.Entries.{below_all}

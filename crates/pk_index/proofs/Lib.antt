@@ -5,3 +5,5 @@ pub mod IndexFacts
 pub mod MergedFacts
 pub mod ReadFacts
 pub mod ToldFacts
+pub mod FileFacts
+pub mod SameFacts

@@ -6,7 +6,7 @@ use Rattle.std.proofs.lemmas.List.{drop-set-lt, drop_all, drop_more, take_more}
 use Rattle.index_level0.specs.Levels.{Entry, Level}
 use Rattle.pk_index.specs.Shown.{FirstHas, HaveLevels}
 
-none_of : (o : Option Entry) → is_some o ≡ false → o ≡ None
+pub none_of : (o : Option Entry) → is_some o ≡ false → o ≡ None
 none_of None e = refl
 none_of (Some x) e = absurd (true≢false e)
 

@@ -1,11 +1,12 @@
-ghost use Rattle.index_file.specs.Reads.{TellsDamage};
-ghost use Rattle.std.specs.Prelude.{◌≡◌, ◌+◌, ◌-◌, ◌<◌, ◌≤◌, ◌^◌, ◌∷◌, ◌++◌, [], ℕ, List, length, map, take, drop, reverse, sum, min, IfErr, IfOk, T};
+ghost use Rattle.index_file.specs.Reads.{OnDamage, TellsDamage};
+ghost use Rattle.std.specs.Prelude.{◌≡◌, ◌+◌, ◌-◌, ◌<◌, ◌≤◌, ◌^◌, ◌∷◌, ◌++◌, [], ℕ, List, None, length, map, take, drop, reverse, sum, min, IfErr, IfOk, T};
 ghost use Rattle.std.specs.Vec.{vec_capacity};
 ghost use Rattle.index_levels.specs.Levels.{entry_at, merged};
 ghost use Rattle.std.specs.FinMap.{entries, is_sorted};
 ghost use Rattle.std.specs.Cmp.Lexicographic.{slice_cmp};
 ghost use Rattle.std.specs.Ordering.{nat_cmp};
 ghost use Rattle.index_level0.specs.Levels.{Level};
+ghost use Rattle.pk_index.specs.Files.{FirstDamaged, IsSame, OneDamaged, Stay};
 ghost use Rattle.pk_index.specs.Shown.{AtMostOneMore, FirstHas, HaveCause, HaveLevels};
 
 use crate::entries::{Pair, merge};
@@ -17,7 +18,9 @@ use std::alloc::Global;
 pub trait FileLevel: Drop {
     ghost use Rattle.std.specs.Prelude.{◌≡◌, ◌+◌, ◌≤◌, ℕ, IfErr, IfOk, List, Option, T};
     ghost use Rattle.dev_traits.specs.Causes.{HasReadCause};
-    ghost use Rattle.index_file.specs.Reads.{TellsDamage};
+    ghost use Rattle.dev_traits.specs.declared.faults.Damaged.{Damaged};
+    ghost use Rattle.index_file.specs.Reads.{OnDamage, TellsDamage};
+    ghost use Rattle.pk_index.specs.Files.{IsSame};
     ghost use Rattle.std.specs.FinMap.{entries, from_sorted, get, is_sorted};
     ghost use Rattle.std.specs.Cmp.Lexicographic.{slice_cmp};
     ghost use Rattle.std.specs.Ordering.{nat_cmp};
@@ -30,6 +33,11 @@ pub trait FileLevel: Drop {
     ghost has_entry: { Self → List ℕ → Option Entry → Type 0 };
 
     ghost reads_as: { Self → Level → Type 0 };
+
+    // How it is damaged where a key is asked, and where all its entries are.
+    ghost damaged_at: { Self → List ℕ → Damaged → Type 0 };
+
+    ghost damaged: { Self → Damaged → Type 0 };
 
     // How often the file was read, and how often a read failed.
     ghost reads: { Self → ℕ };
@@ -55,10 +63,11 @@ pub trait FileLevel: Drop {
     fn probe(&mut self, alloc: Global, key: &[u8]) -> Result<Option<Option<Place>>, ReadFault>
         ensures entry { IfOk result (λ entry. (level : Level) → has_level self.old level → entry ≡ get level key.now) }
         ensures told { IfOk result (λ entry. has_entry self.old key.now entry) }
-        ensures same { (level : Level) → has_level self.old level → has_level self.new level }
+        ensures same { IsSame has_level has_entry reads_as damaged_at damaged self.old self.new }
         ensures reads { reads self.new ≤ reads self.old + 1 }
         ensures named { named self.new ≡ named self.old }
         ensures cause { HasReadCause (faults self.old) (faults self.new) result }
+        ensures damaged { IfErr result (λ e. OnDamage e (damaged_at self.old key.now)) }
         ensures intact { IfErr result (λ e. TellsDamage e → (level : Level) → has_level self.old level → ⊥) };
 
     /// All its entries in the order of their keys.
@@ -66,9 +75,10 @@ pub trait FileLevel: Drop {
         ensures entries { IfOk result (λ all. (level : Level) → has_level self.old level → all.items ≡ entries level) }
         ensures rise { IfOk result (λ all. T (is_sorted (slice_cmp nat_cmp) all.items)) }
         ensures listed { IfOk result (λ all. reads_as self.old (from_sorted all.items)) }
-        ensures same { (level : Level) → has_level self.old level → has_level self.new level }
+        ensures same { IsSame has_level has_entry reads_as damaged_at damaged self.old self.new }
         ensures named { named self.new ≡ named self.old }
         ensures cause { HasReadCause (faults self.old) (faults self.new) result }
+        ensures damaged { IfErr result (λ e. OnDamage e (damaged self.old)) }
         ensures intact { IfErr result (λ e. TellsDamage e → (level : Level) → has_level self.old level → ⊥) };
 }
 
@@ -80,10 +90,11 @@ pub(crate) fn probe_all<F: FileLevel>(
 ) -> Result<Option<Option<Place>>, ReadFault>
     ensures entry { IfOk result (λ entry. (ls : List Level) → HaveLevels F.has_level files.old ls → entry ≡ entry_at ls key.now) }
     ensures told { IfOk result (λ entry. FirstHas (λ f. F.has_entry f key.now) files.old entry) }
-    ensures same { (ls : List Level) → HaveLevels F.has_level files.old ls → HaveLevels F.has_level files.new ls }
+    ensures same { Stay (IsSame F.has_level F.has_entry F.reads_as F.damaged_at F.damaged) files.old files.new }
     ensures reads { AtMostOneMore (map F.reads files.old) (map F.reads files.new) }
     ensures named { map F.named files.new ≡ map F.named files.old }
     ensures cause { HaveCause (map F.faults files.old) (map F.faults files.new) result }
+    ensures damaged { IfErr result (λ e. OnDamage e (λ shown. FirstDamaged (λ f. F.has_entry f key.now None) (λ f. F.damaged_at f key.now shown) files.old)) }
     ensures intact { IfErr result (λ e. TellsDamage e → (ls : List Level) → HaveLevels F.has_level files.old ls → ⊥) }
 {
     for i in 0..files.len() {
@@ -109,10 +120,11 @@ pub(crate) fn merge_newest<F: FileLevel>(
     ensures entries { IfOk result (λ all. (ls : List Level) → HaveLevels F.has_level files.old ls → all.items ≡ entries (merged (level0.now.level ∷ take count ls))) }
     ensures rise { IfOk result (λ all. T (is_sorted (slice_cmp nat_cmp) all.items)) }
     ensures listed { IfOk result (λ all. (ls : List Level) × HaveLevels F.reads_as (take count files.old) ls × (all.items ≡ entries (merged (level0.now.level ∷ ls)))) }
-    ensures same { (ls : List Level) → HaveLevels F.has_level files.old ls → HaveLevels F.has_level files.new ls }
+    ensures same { Stay (IsSame F.has_level F.has_entry F.reads_as F.damaged_at F.damaged) files.old files.new }
     ensures older { drop count files.new ≡ drop count files.old }
     ensures named { map F.named files.new ≡ map F.named files.old }
     ensures cause { HaveCause (map F.faults files.old) (map F.faults files.new) result }
+    ensures damaged { IfErr result (λ e. OnDamage e (λ shown. OneDamaged (λ f. F.damaged f shown) (take count files.old))) }
     ensures intact { IfErr result (λ e. TellsDamage e → (ls : List Level) → HaveLevels F.has_level files.old ls → ⊥) }
 {
     let mut all = level0.entries(alloc)?;

@@ -1,13 +1,15 @@
-ghost use Rattle.std.specs.Prelude.{◌≡◌, ◌+◌, ◌-◌, ◌<◌, ◌≤◌, ◌^◌, ◌↔◌, ◌++◌, ◌∷◌, ℕ, List, [], Option, Some, T, is_some, length, map, take, drop, reverse, sum, max, min, nat_lt, if◌then◌else◌, IfOk, IfErr, IfNone, IsTrue, OnErr, OnOk};
+ghost use Rattle.std.specs.Prelude.{◌≡◌, ◌+◌, ◌-◌, ◌<◌, ◌≤◌, ◌^◌, ◌↔◌, ◌++◌, ◌∷◌, ℕ, List, [], Option, None, Some, T, is_some, length, map, take, drop, reverse, sum, max, min, nat_lt, if◌then◌else◌, IfOk, IfErr, IfNone, IsFalse, IsTrue, OnErr, OnOk};
 ghost use Rattle.std.specs.Option.{option_flatten, option_to_list};
-ghost use Rattle.std.specs.FinMap.{empty, entries, is_sorted, len};
+ghost use Rattle.std.specs.FinMap.{empty, entries, get, is_sorted, len};
 ghost use Rattle.std.specs.Cmp.Lexicographic.{slice_cmp};
 ghost use Rattle.std.specs.Ordering.{nat_cmp};
 ghost use Rattle.index_file.specs.Buckets.{footer_of, index_file};
+ghost use Rattle.index_file.specs.Entries.{IsFileOf};
 ghost use Rattle.index_level0.specs.Levels.{Entry, Level};
 ghost use Rattle.index_levels.specs.Levels.{flushed, levels, merged, newer_than, place_at, put_all, replaced};
-ghost use Rattle.pk_index.specs.Flushing.{merged_for, written};
-ghost use Rattle.index_file.specs.Reads.{TellsDamage};
+ghost use Rattle.pk_index.specs.Files.{FirstDamaged, IsSame, OneDamaged, OnIndexDamage, Stay};
+ghost use Rattle.pk_index.specs.Flushing.{IsWritten, SameAbove, SamePlaces, TakesOlder, merged_for, written};
+ghost use Rattle.index_file.specs.Reads.{OnDamage, TellsDamage};
 ghost use Rattle.pk_index.specs.Shown.{AtMostOneMore, HaveCause, HaveFlushCause, HaveLevels, NewestHas, TellsIndexDamage, index_of};
 
 use crate::entries::{Pair, places, put_changes};
@@ -123,17 +125,25 @@ impl<F: FileLevel> PkIndex<F> {
         ensures told { IfOk result (λ place. (entry : Option Entry) × (place ≡ option_flatten entry)
             × NewestHas F.has_entry self.old.level0.level self.old.files key.now entry) }
         ensures level0 { self.new.level0 ≡ self.old.level0 }
-        ensures same { (files : List Level) → HaveLevels F.has_level self.old.files files → HaveLevels F.has_level self.new.files files }
+        ensures same { Stay (IsSame F.has_level F.has_entry F.reads_as F.damaged_at F.damaged) self.old.files self.new.files }
         ensures number { length self.new.files ≡ length self.old.files }
         ensures named { map F.named self.new.files ≡ map F.named self.old.files }
         ensures cause { HaveCause (map F.faults self.old.files) (map F.faults self.new.files) result }
+
+        // The damage is that of the first file that can tell, and of what it reads for the key.
+        ensures damaged { IfErr result (λ e. OnDamage e (λ shown. (get self.old.level0.level key.now ≡ None)
+            × FirstDamaged (λ f. F.has_entry f key.now None) (λ f. F.damaged_at f key.now shown) self.old.files)) }
         ensures intact { IfErr result (λ e. TellsDamage e → (files : List Level) → HaveLevels F.has_level self.old.files files → ⊥) }
         ensures aside { self.new.aside ≡ self.old.aside }
     {
         if let Some(entry) = self.level0.get(key) {
             return Ok(entry);
         }
-        match probe_all(alloc, &mut self.files, key)? {
+        let found = match probe_all(alloc, &mut self.files, key) {
+            Ok(found) => found,
+            Err(fault) => return Err(fault),
+        };
+        match found {
             Some(entry) => Ok(entry),
             None => Ok(None),
         }
@@ -149,18 +159,23 @@ impl<F: FileLevel> PkIndex<F> {
             × (told.0.items ≡ entries (merged_for (length self.old.files) keep most (self.old.level0.level ∷ ls)))) }
         ensures keep { IfOk result (λ told. told.1 ≡ (if nat_lt (length self.old.files) most then length self.old.files else keep)) }
         ensures level0 { self.new.level0 ≡ self.old.level0 }
-        ensures same { (files : List Level) → HaveLevels F.has_level self.old.files files → HaveLevels F.has_level self.new.files files }
+        ensures same { Stay (IsSame F.has_level F.has_entry F.reads_as F.damaged_at F.damaged) self.old.files self.new.files }
         ensures number { length self.new.files ≡ length self.old.files }
         ensures kept { drop (length self.old.files - keep) self.new.files ≡ drop (length self.old.files - keep) self.old.files }
+        ensures unread { length self.old.files < most → self.new.files ≡ self.old.files }
         ensures named { map F.named self.new.files ≡ map F.named self.old.files }
         ensures cause { HaveCause (map F.faults self.old.files) (map F.faults self.new.files) result }
+        ensures damaged { IfErr result (λ e. OnDamage e (λ shown. OneDamaged (λ f. F.damaged f shown) (take (length self.old.files - (if nat_lt (length self.old.files) most then length self.old.files else keep)) self.old.files))) }
         ensures intact { IfErr result (λ e. TellsDamage e → (files : List Level) → HaveLevels F.has_level self.old.files files → ⊥) }
         ensures aside { self.new.aside ≡ self.old.aside }
     {
         let count = self.mark();
         let kept = if count < most { count } else { keep };
         let above = (count - kept) as usize;
-        let all = merge_newest(alloc, &self.level0, &mut self.files, above)?;
+        let all = match merge_newest(alloc, &self.level0, &mut self.files, above) {
+            Ok(all) => all,
+            Err(fault) => return Err(fault),
+        };
         if count >= most && keep == 0 {
             return Ok((places(all), kept));
         }
@@ -169,7 +184,7 @@ impl<F: FileLevel> PkIndex<F> {
 
     /// Writes one file. Where fewer than `most` files stand, it holds level 0, and the answer keeps all of them. Else it holds the
     /// newest entries of level 0 and all files but the oldest `keep`; where it keeps none, tombstones are left out. The index stays
-    /// as it is.
+    /// as it is, and of its files those alone are read that the answer doesn't keep.
     ///
     /// # Errors
     /// `StoreFault` where the maker or a file's reader counted a fault; `Damaged` as the files tell it; `Memory`.
@@ -186,19 +201,31 @@ impl<F: FileLevel> PkIndex<F> {
         ensures sealed { IfOk result (λ told. (files : List Level) → HaveLevels F.has_level self.old.files files → (bytes : List ℕ) → M.sealed_bytes told.made.sealed ≡ Some bytes
             → bytes ≡ index_file (written keep most (index_of self.old.level0 files))) }
 
+        // Attached with the base 0, the file has exactly what is written.
+        ensures file { IfOk result (λ told. (files : List Level) → HaveLevels F.has_level self.old.files files → (bytes : List ℕ) → M.sealed_bytes told.made.sealed ≡ Some bytes
+            → IsFileOf 0 told.made.footer bytes (written keep most (index_of self.old.level0 files))) }
+
         // Of any files, what all those that it merges are read as, so that no damaged one is passed over.
         ensures listed { IfOk result (λ told. (ls : List Level) × HaveLevels F.reads_as (take (length self.old.files - told.keep) self.old.files) ls
             × (told.made.footer ≡ footer_of (merged_for (length self.old.files) keep most (self.old.level0.level ∷ ls)))
-            × ((bytes : List ℕ) → M.sealed_bytes told.made.sealed ≡ Some bytes → bytes ≡ index_file (merged_for (length self.old.files) keep most (self.old.level0.level ∷ ls)))) }
+            × ((bytes : List ℕ) → M.sealed_bytes told.made.sealed ≡ Some bytes → (bytes ≡ index_file (merged_for (length self.old.files) keep most (self.old.level0.level ∷ ls)))
+            × IsFileOf 0 told.made.footer bytes (merged_for (length self.old.files) keep most (self.old.level0.level ∷ ls)))) }
         ensures told { IfOk result (λ told. is_some (M.sealed_bytes told.made.sealed) ≡ is_some (M.view maker.old).made) }
         ensures keep { IfOk result (λ told. told.keep ≡ (if nat_lt (length self.old.files) most then length self.old.files else keep)) }
         ensures level0 { self.new.level0 ≡ self.old.level0 }
-        ensures same { (files : List Level) → HaveLevels F.has_level self.old.files files → HaveLevels F.has_level self.new.files files }
+        ensures same { Stay (IsSame F.has_level F.has_entry F.reads_as F.damaged_at F.damaged) self.old.files self.new.files }
         ensures number { length self.new.files ≡ length self.old.files }
         ensures kept { drop (length self.old.files - keep) self.new.files ≡ drop (length self.old.files - keep) self.old.files }
+        ensures unread { length self.old.files < most → self.new.files ≡ self.old.files }
         ensures named { map F.named self.new.files ≡ map F.named self.old.files }
         ensures cause { HaveFlushCause (map F.faults self.old.files) (map F.faults self.new.files) (M.view maker.old).faults (M.view maker.new).faults result }
+
+        // The damage is that of a file that it merges.
+        ensures damaged { IfErr result (λ e. OnIndexDamage e (λ shown. OneDamaged (λ f. F.damaged f shown) (take (length self.old.files - (if nat_lt (length self.old.files) most then length self.old.files else keep)) self.old.files))) }
         ensures intact { IfErr result (λ e. TellsIndexDamage e → (files : List Level) → HaveLevels F.has_level self.old.files files → ⊥) }
+
+        // The maker has no file under way.
+        ensures closed { OnOk result (IsFalse (M.view maker.new).is_started) }
         ensures tells { is_some (M.view maker.new).made ≡ is_some (M.view maker.old).made }
         ensures aside { self.new.aside ≡ self.old.aside }
     {
@@ -221,16 +248,20 @@ impl<F: FileLevel> PkIndex<F> {
         ensures listed { IfOk result (λ all. (ls : List Level) × HaveLevels F.reads_as (take (length self.old.files - mark) self.old.files) ls
             × (all.items ≡ entries (merged (self.old.level0.level ∷ ls)))) }
         ensures level0 { self.new.level0 ≡ self.old.level0 }
-        ensures same { (files : List Level) → HaveLevels F.has_level self.old.files files → HaveLevels F.has_level self.new.files files }
+        ensures same { Stay (IsSame F.has_level F.has_entry F.reads_as F.damaged_at F.damaged) self.old.files self.new.files }
         ensures number { length self.new.files ≡ length self.old.files }
         ensures marked { drop (length self.old.files - mark) self.new.files ≡ drop (length self.old.files - mark) self.old.files }
         ensures named { map F.named self.new.files ≡ map F.named self.old.files }
         ensures cause { HaveCause (map F.faults self.old.files) (map F.faults self.new.files) result }
+        ensures damaged { IfErr result (λ e. OnDamage e (λ shown. OneDamaged (λ f. F.damaged f shown) (take (length self.old.files - mark) self.old.files))) }
         ensures intact { IfErr result (λ e. TellsDamage e → (files : List Level) → HaveLevels F.has_level self.old.files files → ⊥) }
         ensures aside { self.new.aside ≡ self.old.aside }
     {
         let above = self.files.len() - mark as usize;
-        let all = merge_newest(alloc, &self.level0, &mut self.files, above)?;
+        let all = match merge_newest(alloc, &self.level0, &mut self.files, above) {
+            Ok(all) => all,
+            Err(fault) => return Err(fault),
+        };
         Ok(all)
     }
 
@@ -240,6 +271,16 @@ impl<F: FileLevel> PkIndex<F> {
         requires few { keep < 8 }
         requires none_aside { self.old.aside ≡ [] }
         ensures index { (files : List Level) (level : Level) → HaveLevels F.has_level self.old.files files → F.has_level file level → HaveLevels F.has_level self.new.files (flushed level keep (index_of self.old.level0 files)).files }
+
+        // Where the file has what a flush of these levels writes, each key keeps its place.
+        ensures map { (files : List Level) (level : Level) (asked most : ℕ) → HaveLevels F.has_level self.old.files files → F.has_level file level
+            → IsWritten asked most keep (index_of self.old.level0 files) level
+            → (after : List Level) × HaveLevels F.has_level self.new.files after × SamePlaces (index_of self.old.level0 files) (index_of self.new.level0 after) }
+
+        // And above a mark, where it keeps the marked files, each key keeps its entry, be it a tombstone.
+        ensures above { (files : List Level) (level : Level) (asked most mark : ℕ) → HaveLevels F.has_level self.old.files files → F.has_level file level
+            → IsWritten asked most keep (index_of self.old.level0 files) level → 1 ≤ mark → mark ≤ keep
+            → (after : List Level) × HaveLevels F.has_level self.new.files after × SameAbove mark (index_of self.old.level0 files) (index_of self.new.level0 after) }
         ensures level { self.new.level0.level ≡ empty }
         ensures spare { self.new.level0.spare ≡ self.old.level0.spare }
         ensures files { self.new.files ≡ file ∷ drop (length self.old.files - keep) self.old.files }
@@ -251,12 +292,15 @@ impl<F: FileLevel> PkIndex<F> {
         self.level0.clear();
     }
 
-    /// Puts one file in place of the oldest `mark` ones. It takes no memory.
+    /// Puts one file in place of the oldest `mark` ones: keys with an entry above the mark keep it, and each other key has the file's.
+    /// It takes no memory.
     pub fn replace_older(&mut self, mark: u32, file: F)
         requires some { 1 ≤ mark }
         requires within { mark ≤ length self.old.files }
         requires none_aside { self.old.aside ≡ [] }
         ensures index { (files : List Level) (level : Level) → HaveLevels F.has_level self.old.files files → F.has_level file level → HaveLevels F.has_level self.new.files (replaced level mark (index_of self.old.level0 files)).files }
+        ensures map { (files : List Level) (level : Level) → HaveLevels F.has_level self.old.files files → F.has_level file level
+            → (after : List Level) × HaveLevels F.has_level self.new.files after × TakesOlder level mark (index_of self.old.level0 files) (index_of self.new.level0 after) }
         ensures files { self.new.files ≡ take (length self.old.files - mark) self.old.files ++ file ∷ [] }
         ensures level0 { self.new.level0 ≡ self.old.level0 }
         ensures number { length self.new.files + mark ≡ length self.old.files + 1 }
@@ -276,10 +320,13 @@ impl<F: FileLevel> PkIndex<F> {
         self.aside.pop()
     }
 
-    /// The files, of which the newest is the first. It takes no memory.
+    /// The files, of which the newest is the first. It takes no memory. Level 0 is let go: where it is empty, the files alone have
+    /// each key's place.
     pub fn into_files(self) -> Vec<F>
         requires { self.aside ≡ [] }
-        ensures { result.items ≡ self.files }
+        ensures files { result.items ≡ self.files }
+        ensures map { (files : List Level) → HaveLevels F.has_level self.files files → self.level0.level ≡ empty
+            → HaveLevels F.has_level result.items files × ((key : List ℕ) → place_at files key ≡ place_at (levels (index_of self.level0 files)) key) }
     {
         let PkIndex {
             level0: _,

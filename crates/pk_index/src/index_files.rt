@@ -6,6 +6,7 @@ use index_level0::Place;
 use std::alloc::Global;
 
 impl<R: SealedReader> FileLevel for IndexFile<R> {
+    ghost use Rattle.index_file.specs.Damages.{IsDamageAt, IsFileDamage};
     ghost use Rattle.index_file.specs.Entries.{HasLevel};
     ghost use Rattle.index_file.specs.Listing.{HasEntry, ReadsAs};
 
@@ -14,6 +15,10 @@ impl<R: SealedReader> FileLevel for IndexFile<R> {
     ghost has_entry = { λ f key entry. HasEntry f.base f.footer (R.view f.reader) key entry };
 
     ghost reads_as = { λ f level. ReadsAs f.base f.footer (R.view f.reader) level };
+
+    ghost damaged_at = { λ f key shown. IsDamageAt f.base f.footer f.number (R.view f.reader) key shown };
+
+    ghost damaged = { λ f shown. IsFileDamage f.base f.footer f.number (R.view f.reader) shown };
 
     ghost reads = { λ f. (R.view f.reader).reads };
 

@@ -5,7 +5,8 @@ ghost use Rattle.segment_read.specs.Rows.{IsRowsDamage};
 ghost use Rattle.rowsets.specs.Scans.{alive};
 ghost use Rattle.rowsets.specs.Scans as scans;
 ghost use Rattle.pk_values.specs.Schemas.{fits_row, Layout};
-ghost use Rattle.snapshot_scan.specs.Parts.{AreLive, AreLiveIn, AreWrittenIn, IsAllWhole, IsBlockOf, IsPart, IsWhole, read_by, seen, ToldOfNoPiece};
+ghost use Rattle.snapshot_scan.specs.Parts.{AreLive, AreLiveIn, AreWrittenIn, IsAllWhole, IsBlockOf, IsPart, IsWhole};
+ghost use Rattle.snapshot_scan.specs.Parts.{read_by, seen, ToldOfNoPiece};
 ghost use Rattle.snapshot_scan.specs.Scans.{HasLeft, HasLive, IsBlockDamage, IsCursor, ReadOn};
 
 use crate::live::{live_rows, next_live};

@@ -9,7 +9,8 @@ ghost use Rattle.std.specs.FinMap.{get};
 ghost use Rattle.index_level0.specs.declared.place.Place.{Place as Spot};
 ghost use Rattle.segment_read.specs.Reads.{KnowsFooter};
 ghost use Rattle.tablet_state.specs.Contents.{index_of};
-ghost use Rattle.tablet_state.specs.Moving.{HasAt, HasRowOf, IsCopyOf, KeysAreTold, PlacesAreLive, keeps_live, read_once, total_reads};
+ghost use Rattle.tablet_state.specs.Moving.{HasAt, HasRowOf, IsCopyOf, KeysAreTold, PlacesAreLive};
+ghost use Rattle.tablet_state.specs.Moving.{keeps_live, read_once, total_reads};
 ghost use Rattle.tablet_state.specs.Seen.{segment_seen, segments_of};
 ghost use Rattle.tablet_state.specs.Snapshots.{Lends, SameButReads};
 ghost use Rattle.tablet_state.specs.State.{Has, Rests, faults_of, segment_of};
@@ -23,8 +24,8 @@ use segment_read::Segment;
 use segment_write::{Made, write_segment};
 use std::alloc::Global;
 
-/// What is held for a book tells which keys have no row, and of those that stand where they stood that they have the row
-/// that they had. The function does nothing.
+/// What is held for a book tells which keys have no row, and of those that stand where they stood that they have the
+/// row that they had. The function does nothing.
 pub fn told_keys()
     ensures { KeysAreTold }
 {}
@@ -37,7 +38,8 @@ fn copy_of<R: SealedReader>(
 ) -> Result<Segment<R>, Memory>
     requires rise { Rises (map (λ g. g.number) (segments_of R.view segments.old.items)) }
     requires there { IsSome (segment_of (segments_of R.view segments.old.items) file) }
-    ensures copy { IfOk result (λ copy. IsCopyOf (segments_of R.view segments.old.items) file (segment_seen R.view copy)) }
+    ensures copy { IfOk result (λ copy. IsCopyOf (segments_of R.view segments.old.items) file
+        (segment_seen R.view copy)) }
     ensures counted { OnOk result (segments_of R.view segments.new.items
         ≡ read_once file (segments_of R.view segments.old.items)) }
     ensures uncounted { OnErr result (segments_of R.view segments.new.items
@@ -76,7 +78,8 @@ impl<S: Store> State<S> {
     pub fn segment(&mut self, alloc: Global, file: u64) -> Result<Segment<S::Reader>, Memory>
         requires there { IsSome (segment_of self.old.segments file) }
         ensures copy { IfOk result (λ copy. IsCopyOf self.old.segments file (segment_seen S.Reader.view copy)) }
-        ensures known { IfOk result (λ copy. KnowsFooter self.old.contents.schema (S.Reader.view copy.reader) copy.footer) }
+        ensures known { IfOk result (λ copy. KnowsFooter self.old.contents.schema (S.Reader.view copy.reader)
+            copy.footer) }
 
         // Where the state is open and has a book, it has the rows of the keys that the index places there.
         ensures rows { IfOk result (λ copy. (b : Book) (k : List Value) (p : Spot) → Has S.view self.old b

@@ -1,4 +1,4 @@
-use Rattle.std.proofs.Common.{◌≡◌, ◌∙◌, sym, subst, ℕ, vec_capacity}
+use Rattle.std.proofs.Common.{◌∙◌, sym, subst, ℕ, vec_capacity}
 use Rattle.pk_model.specs.declared.calls.Call.TheVariants as call
 use Rattle.pk_model.specs.declared.calls.Reply.TheVariants as reply
 use Rattle.tablet_state.specs.Floors.{IsFloorMade}

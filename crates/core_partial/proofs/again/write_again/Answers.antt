@@ -2,6 +2,8 @@ use Rattle.std.proofs.Common.{◌≡◌, ◌∙◌, ◌++◌, ◌∷◌, [], ap,
 use Rattle.std.specs.Slice.Iter.{chunks_rest, chunks_size}
 use Rattle.std.specs.Prelude.{List, Option, Some}
 use Rattle.std.proofs.lemmas.Option.{MatchOption-at_none}
+use Rattle.dev_traits.specs.Causes.{Counts}
+use Rattle.tablet_state.specs.State.{faults_of}
 use Rattle.column_page.specs.declared.footers.Footer.{Footer}
 use Rattle.pk_values.specs.Schemas.{Layout}
 use Rattle.std.proofs.lemmas.List.{map-append}
@@ -50,7 +52,7 @@ loop-chunk-preserved g c =
           subst (λ fs. WritesOn s c.args.rows.now later fs) (sym pushed)
           (writes-more s c.args.rows.now rest chunk later (map see c.loop-chunk.files.items) (see made) steps.1.0 long steps.1.2 inv.sealed
           (chunk-rows s rest chunk later steps.1.0 long steps.1.2 inv.fit inv.rise) sealed footer);
-      rests = rests_then g.S.Store.view c.args.state.now c.loop-chunk.state c.write_rows-made.new.state inv.rests c.in_ok-made.ensures.rests;
+      rests = rests_then g.S.Store.view c.args.state.now c.loop-chunk.state c.write_rows.new.state inv.rests c.in_ok-made.ensures.rests;
       unfailed = c.in_ok-made.ensures.cause.well (λ e. cc) ∙ inv.unfailed;
     }
 
@@ -58,3 +60,24 @@ pub returns-clause-sealed : goal.returns-clause-sealed
 returns-clause-sealed g c =
     writes-all c.args.state.now.contents.schema c.args.rows.now (chunks_rest c.loop-chunk.chunk-iterator) _
     (MatchOption-at_none _ _ c.in-None.is c.next.ensures.steps.1).0 c.loop-chunk.invariant.sealed
+
+pub returns-in_err-made-clause-has : goal.returns-in_err-made-clause-has
+returns-in_err-made-clause-has g c b h =
+    has_rests g.S.Store.view c.args.state.now c.write_rows.new.state b
+    (rests_then g.S.Store.view c.args.state.now c.loop-chunk.state c.write_rows.new.state c.loop-chunk.invariant.rests c.in_err-made.ensures.rests) h
+
+pub returns-in_err-made-clause-cause : goal.returns-in_err-made-clause-cause
+returns-in_err-made-clause-cause g c =
+    let cause = c.in_err-made.ensures.cause in
+    record {
+      well = λ other. cause.well other ∙ c.loop-chunk.invariant.unfailed;
+      failed = λ is. subst (λ n. Counts 1 n (faults_of g.S.Store.view c.write_rows.new.state)) c.loop-chunk.invariant.unfailed (cause.failed is);
+    }
+
+pub returns-in_err-push-clause-has : goal.returns-in_err-push-clause-has
+returns-in_err-push-clause-has g c b h =
+    has_rests g.S.Store.view c.args.state.now c.write_rows.new.state b
+    (rests_then g.S.Store.view c.args.state.now c.loop-chunk.state c.write_rows.new.state c.loop-chunk.invariant.rests c.in_ok-made.ensures.rests) h
+
+pub returns-clause-has : goal.returns-clause-has
+returns-clause-has g c b h = has_rests g.S.Store.view c.args.state.now c.loop-chunk.state b c.loop-chunk.invariant.rests h

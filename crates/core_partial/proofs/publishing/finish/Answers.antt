@@ -1,10 +1,11 @@
-use Rattle.std.proofs.Common.{◌≡◌, ◌∙◌, ap, sym, subst, List, map, length, vec_len}
+use Rattle.std.proofs.Common.{◌≡◌, ◌∙◌, [], ap, sym, subst, List, map, length, vec_len, append-nil}
 use Rattle.std.proofs.lemmas.List.{length-map}
 use Rattle.pk_model.specs.declared.calls.Call.TheVariants as call
 use Rattle.pk_model.specs.declared.calls.Load.{Load}
 use Rattle.segment_write.specs.declared.segments.Made.{Made}
 use Rattle.tablet_state.specs.Contents.{Contents, index_of}
 use Rattle.tablet_state.specs.Readies.{IsChangeOf, IsLed, NewSegment, new_files, next_contents}
+use Rattle.tablet_state.specs.State.{Shown, reads_of}
 use Rattle.core_publish.proofs.TurnFacts.{memory_step, moments_still, moments_then}
 use Rattle.core_partial.proofs.HeldFacts.{held_with}
 use Rattle.core_partial.proofs.publishing.finish.Goals as goal
@@ -73,3 +74,10 @@ returns-in-Ok-apply-clause-held g c v e =
     (subst (λ (x : Contents). IsLed x (new_files x.next_file made) ready.change.dead.items ready.body (next_contents (length made) ready.current ready.change.index.items x)) same c.in-Ok.ensures.made.led)
     (ready.change.files.ok.0 ∙ sym (length-map ready.change.files.items see))
     (c.in-Ok-apply.ensures.next ∙ ap (λ (x : Contents). next_contents (vec_len ready.change.files) ready.current ready.change.index.items x) same)
+
+pub returns-in-Err-Index-clause-reads : goal.returns-in-Err-Index-clause-reads
+returns-in-Err-Index-clause-reads g c = (
+  [],
+  ap (λ (x : Shown _). reads_of x.segments) c.close_at.ensures.closed ∙ ap reads_of c.ready_of.ensures.rests.segments ∙ sym (append-nil (reads_of c.args.state.now.segments)),
+  tt,
+)

@@ -1,4 +1,5 @@
 use Rattle.std.proofs.Common.{◌≡◌, ◌∙◌, ◌+◌, ◌-◌, ◌^◌, ◌<◌, ◌≤◌, min, ap, sym, subst, refl, Some, is_some, arith}
+use Rattle.std.specs.FinMap.{get}
 use Rattle.std.proofs.lemmas.Result.{IfErr-weaker, IfOk-weaker}
 use Rattle.index_level0.specs.declared.place.Place.{Place}
 use Rattle.pk_values.specs.Schemas.{Layout}
@@ -12,10 +13,10 @@ use Rattle.core_partial.proofs.ReadFacts.{damage_there, no_damage, on_damage, re
 use Rattle.core_partial.proofs.remaking.read_row.Goals as goal
 
 pub segment-requires : goal.segment-requires
-segment-requires g c = ap is_some c.requires.there.there
+segment-requires g c = record { there = ap is_some c.requires.there.there }
 
-pub row_at-requires : goal.row_at-requires
-row_at-requires g c =
+pub row_at-read-requires : goal.row_at-read-requires
+row_at-read-requires g c =
     let view = g.S.Reader.SealedReader.view in
     let seg = c.in_ok-segment.segment in
     record {
@@ -33,8 +34,8 @@ pub returns-clause-row : goal.returns-clause-row
 returns-clause-row g c =
     let view = g.S.Reader.SealedReader.view in
     let seg : SegmentView = segment_seen view c.in_ok-segment.segment in
-    IfOk-weaker c.row_at-read.result _ _ (λ row h b k has open_ at. row_of_book c.args.schema.now seg c.args.place.now.row row _
-    (subst (λ (s : Layout). HasAt s seg c.args.place.now.row _) (sym c.requires.schema) (c.in_ok-segment.ensures.rows b k c.args.place.now has open_ at refl)) h) c.row_at-read.ensures.of_segment
+    IfOk-weaker c.row_at-read.result _ _ (λ row h b k has open_ at. row_of_book c.args.schema.now seg c.args.place.now.row row (get b.current k)
+    (subst (λ (s : Layout). HasAt s seg c.args.place.now.row (get b.current k)) (sym c.requires.schema) (c.in_ok-segment.ensures.rows b k c.args.place.now has open_ at refl)) h) c.row_at-read.ensures.of_segment
 
 pub returns-clause-damaged : goal.returns-clause-damaged
 returns-clause-damaged g c =
@@ -46,8 +47,8 @@ pub returns-clause-intact : goal.returns-clause-intact
 returns-clause-intact g c =
     let view = g.S.Reader.SealedReader.view in
     let seg : SegmentView = segment_seen view c.in_ok-segment.segment in
-    IfErr-weaker c.row_at-read.result _ _ (λ e h. on_damage e _ _ (λ d none b k has open_ at. no_damage c.args.schema.now seg c.args.place.now.row _
-    (subst (λ (s : Layout). HasAt s seg c.args.place.now.row _) (sym c.requires.schema) (c.in_ok-segment.ensures.rows b k c.args.place.now has open_ at refl)) none) h) c.row_at-read.ensures.intact
+    IfErr-weaker c.row_at-read.result _ _ (λ e h. on_damage e _ _ (λ d none b k has open_ at. no_damage c.args.schema.now seg c.args.place.now.row (get b.current k)
+    (subst (λ (s : Layout). HasAt s seg c.args.place.now.row (get b.current k)) (sym c.requires.schema) (c.in_ok-segment.ensures.rows b k c.args.place.now has open_ at refl)) none) h) c.row_at-read.ensures.intact
 
 pub returns-clause-cause : goal.returns-clause-cause
 returns-clause-cause g c =

@@ -1,4 +1,4 @@
-use Rattle.std.proofs.Common.{◌≡◌, ◌++◌, drop, get_or}
+use Rattle.std.proofs.Common.{◌≡◌, ◌++◌, drop}
 use Rattle.std.specs.List.{flat_map}
 use Rattle.index_file.specs.Buckets.{bucket_body, entry_bytes, in_bucket}
 use Rattle.index_file.specs.Chains.{Leads}

@@ -1,5 +1,7 @@
 use Rattle.index_file.proofs.BucketFacts.{bucket_stands_there, bucket_tells, key_has_bucket}
 use Rattle.index_file.proofs.FormFacts.{file_of_one_level}
+use Rattle.index_file.proofs.IntactFacts.{buckets_number}
+use Rattle.index_file.proofs.MadeFacts.{made_has_footer}
 use Rattle.index_file.proofs.SequenceFacts.{bucket_of_one_list}
 use Rattle.index_file.proofs.laws.files.Goals as goal
 
@@ -17,3 +19,9 @@ returns-clause-one c = file_of_one_level
 
 pub returns-clause-one_list : goal.returns-clause-one_list
 returns-clause-one_list c = bucket_of_one_list
+
+pub returns-clause-made : goal.returns-clause-made
+returns-clause-made c = made_has_footer
+
+pub returns-clause-numbered : goal.returns-clause-numbered
+returns-clause-numbered c = buckets_number

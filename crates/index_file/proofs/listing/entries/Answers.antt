@@ -1,4 +1,4 @@
-use Rattle.std.proofs.Common.{◌≡◌, ◌≤◌, ◌∙◌, ap, sym, subst, arith, length, List, ℕ, T, refl, inr, rules}
+use Rattle.std.proofs.Common.{◌∙◌, ap, sym, subst, arith, length, List, ℕ, T, refl, inr, rules}
 use Rattle.std.specs.FinMap.{entries, entries_sorted, from_entries, is_sorted}
 use Rattle.std.specs.Cmp.Lexicographic.{slice_cmp, nat_list_cmp_total}
 use Rattle.std.specs.Ordering.{nat_cmp}
@@ -7,6 +7,7 @@ use Rattle.index_level0.specs.Levels.{Entry, Level}
 use Rattle.index_level0.proofs.LevelFacts.{Pairs, sorted_entries}
 use Rattle.index_file.proofs.ListingFacts.{level_of}
 use Rattle.index_file.proofs.ReaderFacts.{file_damage, knows_still, no_damage, same_read}
+use Rattle.index_file.proofs.WholeFacts.{still_whole}
 use Rattle.index_file.proofs.listing.entries.Goals as goal
 
 pub invariant_of-file : goal.invariant_of-file
@@ -14,7 +15,7 @@ invariant_of-file g c =
     let view = g.R.SealedReader.view in
     let f = c.args.file.now.footer in
     let same = same_read (length f.buckets) (view c.args.file.now.reader) (view c.gather.new.reader) c.gather.result c.gather.ensures.reading in
-    record { known = knows_still (view c.args.file.now.reader) (view c.gather.new.reader) f same c.args.file.now.known; numbered = c.args.file.now.numbered }
+    record { known = knows_still (view c.args.file.now.reader) (view c.gather.new.reader) f same c.args.file.now.known; numbered = c.args.file.now.numbered; whole = still_whole c.args.file.now.base f (view c.args.file.now.reader) (view c.gather.new.reader) c.args.file.now.notes same c.args.file.now.whole }
 
 pub gather-requires-clause-some : goal.gather-requires-clause-some
 gather-requires-clause-some g c = omega (arith, c.args.file.now.numbered)

@@ -1,5 +1,5 @@
-use Rattle.std.proofs.Common.{◌≡◌, ◌+◌, ◌-◌, ◌∙◌, ap, arith, length, List, ℕ}
-use Rattle.index_file.specs.Buckets.{bucket_body, bucket_file, in_bucket}
+use Rattle.std.proofs.Common.{◌≡◌, ◌-◌, ap, arith, length, List, ℕ}
+use Rattle.index_file.specs.Buckets.{bucket_body, in_bucket}
 use Rattle.index_file.specs.declared.footers.BucketMark.{BucketMark}
 use Rattle.index_file.proofs.BucketFacts.{length-bucket_file}
 use Rattle.index_file.proofs.making.put_bucket.Goals as goal

@@ -1,4 +1,4 @@
-use Rattle.std.proofs.Common.{◌≡◌, ◌+◌, ◌∙◌, ◌++◌, drop, ap, List, arith}
+use Rattle.std.proofs.Common.{◌+◌, ◌∙◌, ◌++◌, drop, ap, List, arith}
 use Rattle.index_file.specs.Buckets.{buckets_of, in_bucket, marks_from}
 use Rattle.index_file.specs.declared.footers.BucketMark.{BucketMark}
 use Rattle.index_file.proofs.MakingFacts.{level_of, made_all, made_next, marks_all, marks_next, next_bucket, no_bucket}
@@ -34,3 +34,6 @@ returns-clause-marks g c =
     let es = c.args.entries.now in
     let none = no_bucket es c.buckets_for-buckets.result c.loop-b.b c.requires.rise c.buckets_for-buckets.ensures (omega (arith, c.loop-b-test.false)) in
     marks_all _ c.loop-b.marks _ c.loop-b.place none c.loop-b.invariant.marks
+
+pub returns-clause-few : goal.returns-clause-few
+returns-clause-few g c = omega (arith, c.in_ok-chains.ensures.chained.nexts, c.in_ok-chains.chains.next.ok.0)

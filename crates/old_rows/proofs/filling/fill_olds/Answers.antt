@@ -1,10 +1,10 @@
-use Rattle.std.proofs.Common.{◌≡◌, refl, ap, sym, subst, ◌∙◌, ◌+◌, ◌<◌, length, take, drop, arith}
+use Rattle.std.proofs.Common.{refl, ap, subst, ◌∙◌, arith}
 use Rattle.std.specs.Prelude.{Err}
 use Rattle.std.proofs.lemmas.Result.{err_from_is_err_and}
 use Rattle.old_rows.specs.Reading.{AreFilled}
 use Rattle.old_rows.proofs.FillingFacts.{cause-then, ended-read, none-so-far}
 use Rattle.old_rows.proofs.OneFacts.{cause-err}
-use Rattle.old_rows.proofs.RunsFacts.{faults-after, last-reads, rest-is, run-damage, run-filled, run-is, run-keys, run-most, run-one, run-reads, run-some, take-all}
+use Rattle.old_rows.proofs.RunsFacts.{faults-after, last-reads, rest-is, run-damage, run-filled, run-is, run-keys, run-most, run-one, run-reads, run-some, take-all, well-counted}
 use Rattle.old_rows.proofs.StillFacts.{finds-same, same-itself, same-then}
 use Rattle.old_rows.proofs.filling.fill_olds.Goals as goal
 
@@ -72,7 +72,7 @@ returns-clause-filled g c =
 
 pub returns-clause-cause : goal.returns-clause-cause
 returns-clause-cause g c =
-    ?
+    well-counted _ _ _ tt refl c.loop-at.invariant.faults
 
 pub returns-clause-reads : goal.returns-clause-reads
 returns-clause-reads g c =

@@ -1,16 +1,11 @@
-use Rattle.std.proofs.Common.{◌≡◌, ap, sym, subst, ◌∙◌, ◌+◌, ◌/◌, ◌<◌, ℕ, All, IsTrue, length, true, arith}
+use Rattle.std.proofs.Common.{◌≡◌, ap, sym, subst, ◌∙◌, All, IsTrue, arith}
 use Rattle.std.specs.Prelude.{Err}
 use Rattle.std.proofs.lemmas.Result.{err_from_is_err_and}
 use Rattle.pk_values.specs.Schemas.{Layout, fits_row}
-use Rattle.column_page.specs.Footers.{is_footer}
-use Rattle.column_page.specs.declared.footers.Footer.{Footer}
-use Rattle.snapshot_scan.specs.Parts.{PartView}
-use Rattle.snapshot_scan.specs.Snapshots.{SnapshotView}
 use Rattle.segment_read.proofs.Scanning.{if_ok_so}
 use Rattle.snapshot_scan.proofs.SnapFacts.{if_err_so}
-use Rattle.segment_read.proofs.FooterFacts.{row_inside}
 use Rattle.old_rows.proofs.OneFacts.{block-fills, block-misses, cause-after, cause-err, now-there, one-block, one-cause, one-same}
-use Rattle.old_rows.proofs.ReadingFacts.{broken-block, first_place, no-file, on-damage, part-there, past-file, some-part, to-part}
+use Rattle.old_rows.proofs.ReadingFacts.{block-there, broken-block, first_place, no-file, on-damage, part-there, past-file, some-part}
 use Rattle.old_rows.proofs.filling.take_block.Goals as goal
 
 pub returns-in_default-clause-damaged : goal.returns-in_default-clause-damaged
@@ -35,9 +30,8 @@ returns-then-place-fields-clause-damaged g c =
 pub written_rows-requires-clause-block : goal.written_rows-requires-clause-block
 written_rows-requires-clause-block g c =
     let is = c.requires.found.only (first_place c.args.wanted.now).segment c.in-Some.i (sym c.part_of.ensures ∙ c.in-Some.is) in
-    let footer = some-part c.args.snapshot.now.parts _ c.in-Some.i (λ part. c.footer.result.now ≡ part.footer) is c.footer.ensures in
-    to-part c.args.snapshot.now.parts _ c.in-Some.i (λ part. (first_place c.args.wanted.now).row / 1024 < length part.footer.blocks) is
-    (row_inside is.part.footer (first_place c.args.wanted.now).row (subst (λ (f : Footer). is_footer f ≡ true) footer c.fields.ensures.valid) (omega (arith, c.if-place-fields.false, ap (λ f. f.rows) c.fields.ensures.fields, ap (λ f. f.rows) footer))).0
+    block-there c.args.snapshot.now c.args.wanted.now c.in-Some.i is c.footer.result.now (some-part c.args.snapshot.now.parts _ c.in-Some.i (λ part. c.footer.result.now ≡ part.footer) is c.footer.ensures)
+    c.fields.ensures.valid.is (omega (arith, c.if-place-fields.false, ap (λ f. f.rows) c.fields.ensures.fields))
 
 pub returns-in_err-rows-clause-damaged : goal.returns-in_err-rows-clause-damaged
 returns-in_err-rows-clause-damaged g c =
@@ -69,19 +63,22 @@ dead-requires g c =
 
 pub take_rows-requires-clause-fit : goal.take_rows-requires-clause-fit
 take_rows-requires-clause-fit g c =
-    subst (λ (s : Layout). All (λ row. IsTrue (fits_row s row)) c.in_ok-rows.rows.items) (sym (c.schema.ensures ∙ c.written_rows.ensures.schema)) c.in_ok-rows.ensures.fit
+    subst (λ (s : Layout). All (λ row. IsTrue (fits_row s row)) c.deref.result.now) (sym (c.schema.ensures ∙ c.written_rows.ensures.schema))
+    (subst (λ rows. All (λ row. IsTrue (fits_row c.args.snapshot.now.schema row)) rows) (sym c.deref.ensures.value) c.in_ok-rows.ensures.fit)
 
 pub returns-clause-filled : goal.returns-clause-filled
 returns-clause-filled g c =
     let is = c.requires.found.only (first_place c.args.wanted.now).segment c.in-Some.i (sym c.part_of.ensures ∙ c.in-Some.is) in
     if_ok_so c.take_rows.result _ _ (λ x more. block-fills c.args.snapshot.now c.written_rows.new.self c.args.keys.now c.args.wanted.now c.requires.some c.requires.keys c.requires.one c.in-Some.i is
-    (one-same c.args.snapshot.now c.written_rows.new.self c.in-Some.i c.written_rows.result c.written_rows.ensures.version c.written_rows.ensures.schema c.written_rows.ensures.reading) c.in_ok-rows.rows.items c.in_ok-rows.ensures.rows c.in_ok-rows.ensures.bytes c.written_rows.requires.block c.schema.result.now c.schema.ensures c.dead.result.now c.dead.ensures _ _ more) c.take_rows.ensures.taken
+    (one-same c.args.snapshot.now c.written_rows.new.self c.in-Some.i c.written_rows.result c.written_rows.ensures.version c.written_rows.ensures.schema c.written_rows.ensures.reading) c.in_ok-rows.rows.items c.in_ok-rows.ensures.rows c.in_ok-rows.ensures.bytes (block-there c.args.snapshot.now c.args.wanted.now c.in-Some.i is c.footer.result.now (some-part c.args.snapshot.now.parts _ c.in-Some.i (λ part. c.footer.result.now ≡ part.footer) is c.footer.ensures)
+    c.fields.ensures.valid.is (omega (arith, c.if-place-fields.false, ap (λ f. f.rows) c.fields.ensures.fields))) c.schema.result.now c.schema.ensures c.deref.result.now c.deref.ensures.value c.dead.result.now c.dead.ensures _ _ more) c.take_rows.ensures.taken
 
 pub returns-clause-damaged : goal.returns-clause-damaged
 returns-clause-damaged g c =
     let is = c.requires.found.only (first_place c.args.wanted.now).segment c.in-Some.i (sym c.part_of.ensures ∙ c.in-Some.is) in
     if_err_so c.take_rows.result _ _ (λ e may. block-misses c.args.snapshot.now c.written_rows.new.self c.args.keys.now c.args.wanted.now c.requires.some c.requires.keys c.requires.one c.in-Some.i is
-    (one-same c.args.snapshot.now c.written_rows.new.self c.in-Some.i c.written_rows.result c.written_rows.ensures.version c.written_rows.ensures.schema c.written_rows.ensures.reading) c.in_ok-rows.rows.items c.in_ok-rows.ensures.rows c.in_ok-rows.ensures.bytes c.written_rows.requires.block c.schema.result.now c.schema.ensures c.dead.result.now c.dead.ensures e may) c.take_rows.ensures.missing
+    (one-same c.args.snapshot.now c.written_rows.new.self c.in-Some.i c.written_rows.result c.written_rows.ensures.version c.written_rows.ensures.schema c.written_rows.ensures.reading) c.in_ok-rows.rows.items c.in_ok-rows.ensures.rows c.in_ok-rows.ensures.bytes (block-there c.args.snapshot.now c.args.wanted.now c.in-Some.i is c.footer.result.now (some-part c.args.snapshot.now.parts _ c.in-Some.i (λ part. c.footer.result.now ≡ part.footer) is c.footer.ensures)
+    c.fields.ensures.valid.is (omega (arith, c.if-place-fields.false, ap (λ f. f.rows) c.fields.ensures.fields))) c.schema.result.now c.schema.ensures c.deref.result.now c.deref.ensures.value c.dead.result.now c.dead.ensures e may) c.take_rows.ensures.missing
 
 pub returns-clause-cause : goal.returns-clause-cause
 returns-clause-cause g c =

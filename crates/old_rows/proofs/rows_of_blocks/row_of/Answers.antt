@@ -1,7 +1,4 @@
-use Rattle.std.proofs.Common.{◌≡◌, ap, sym, subst, ◌∙◌, true, false, arith}
-use Rattle.std.specs.Ordering.{eq_by_cmp}
-use Rattle.pk_values.specs.Order.{key_cmp}
-use Rattle.pk_values.specs.Schemas.{key_of}
+use Rattle.std.proofs.Common.{sym, ◌∙◌, arith}
 use Rattle.old_rows.proofs.TakeFacts.{at-index, is-missing, is-taken}
 use Rattle.old_rows.proofs.rows_of_blocks.row_of.Goals as goal
 

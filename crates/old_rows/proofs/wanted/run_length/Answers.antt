@@ -1,4 +1,4 @@
-use Rattle.std.proofs.Common.{◌≡◌, ap, sym, subst, ◌∙◌, length, drop, get_or, arith}
+use Rattle.std.proofs.Common.{sym, ◌∙◌, arith}
 use Rattle.old_rows.proofs.RunFacts.{is-run, other-next, run-more, none-next}
 use Rattle.old_rows.proofs.wanted.run_length.Goals as goal
 

@@ -1,9 +1,10 @@
-use Rattle.std.proofs.Common.{◌∙◌, ◌++◌, ◌∷◌, [], ◌<◌, ℕ, ap, arith, length, refl, subst, take}
+use Rattle.std.proofs.Common.{◌∙◌, ◌++◌, ◌∷◌, [], ◌<◌, ℕ, ap, arith, get_or, length, refl, subst, take}
 use Rattle.std.proofs.lemmas.List.{drop-set-lt}
 use Rattle.std.specs.FinMap.{entries, from_sorted}
 use Rattle.index_levels.specs.Levels.{over}
 use Rattle.pk_index.proofs.CauseFacts.{calm_fault, fails_once, none_have, told_same}
-use Rattle.pk_index.proofs.IndexFacts.{still_have}
+use Rattle.pk_index.specs.Files.{OneDamaged}
+use Rattle.pk_index.proofs.SameFacts.{of_damage, one_damaged, stay_on, stay_themselves, still_levels}
 use Rattle.pk_index.specs.Shown.{HaveLevels}
 use Rattle.pk_index.proofs.MergeFacts.{Pairs}
 use Rattle.pk_index.proofs.MergedFacts.{merged_alone, merges_more, merges_on, risen}
@@ -13,7 +14,7 @@ use Rattle.pk_index.proofs.files.merge_newest.Goals as goal
 pub loop-i-init : goal.loop-i-init
 loop-i-init g c =
     record {
-      same = λ ls have. have;
+      same = stay_themselves g.F.FileLevel.has_level g.F.FileLevel.has_entry g.F.FileLevel.reads_as g.F.FileLevel.damaged_at g.F.FileLevel.damaged c.args.files.now;
       so_far = λ ls have. c.in_ok-all.ensures ∙ merged_alone c.args.level0.now.level;
       rest = refl;
       listed = ([], tt, c.in_ok-all.ensures ∙ merged_alone c.args.level0.now.level);
@@ -24,21 +25,21 @@ loop-i-init g c =
     }
 
 pub returns-in-Err-clause-same : goal.returns-in-Err-clause-same
-returns-in-Err-clause-same g c ls have =
-    still_have g.F.FileLevel.has_level c.loop-i.files c.loop-i.i c.index-files-i.result c.entries-in-loop-i.new.self c.entries-in-loop-i.ensures.same ls (c.loop-i.invariant.same ls have)
+returns-in-Err-clause-same g c =
+    stay_on g.F.FileLevel.has_level g.F.FileLevel.has_entry g.F.FileLevel.reads_as g.F.FileLevel.damaged_at g.F.FileLevel.damaged c.args.files.now c.loop-i.files c.loop-i.i c.index-files-i.result c.entries-in-loop-i.new.self c.entries-in-loop-i.ensures.same c.loop-i.invariant.same
 
 pub returns-in-Err-merge-clause-same : goal.returns-in-Err-merge-clause-same
-returns-in-Err-merge-clause-same g c ls have =
-    still_have g.F.FileLevel.has_level c.loop-i.files c.loop-i.i c.index-files-i.result c.entries-in-loop-i.new.self c.entries-in-loop-i.ensures.same ls (c.loop-i.invariant.same ls have)
+returns-in-Err-merge-clause-same g c =
+    stay_on g.F.FileLevel.has_level g.F.FileLevel.has_entry g.F.FileLevel.reads_as g.F.FileLevel.damaged_at g.F.FileLevel.damaged c.args.files.now c.loop-i.files c.loop-i.i c.index-files-i.result c.entries-in-loop-i.new.self c.entries-in-loop-i.ensures.same c.loop-i.invariant.same
 
 pub loop-i-preserved : goal.loop-i-preserved
 loop-i-preserved g c =
     let less : c.loop-i.i < length c.loop-i.files = omega arith in
     record {
-      same = λ ls have. still_have g.F.FileLevel.has_level c.loop-i.files c.loop-i.i c.index-files-i.result c.entries-in-loop-i.new.self c.entries-in-loop-i.ensures.same ls (c.loop-i.invariant.same ls have);
+      same = stay_on g.F.FileLevel.has_level g.F.FileLevel.has_entry g.F.FileLevel.reads_as g.F.FileLevel.damaged_at g.F.FileLevel.damaged c.args.files.now c.loop-i.files c.loop-i.i c.index-files-i.result c.entries-in-loop-i.new.self c.entries-in-loop-i.ensures.same c.loop-i.invariant.same;
       so_far = λ ls have.
           merges_on g.F.FileLevel.has_level c.args.level0.now.level c.loop-i.files ls c.loop-i.i c.index-files-i.result
-          c.deref.result.now c.deref-in-loop-i.result.now c.in-Ok-merge.both.items less (c.loop-i.invariant.same ls have)
+          c.deref.result.now c.deref-in-loop-i.result.now c.in-Ok-merge.both.items less (still_levels g.F.FileLevel.has_level g.F.FileLevel.has_entry g.F.FileLevel.reads_as g.F.FileLevel.damaged_at g.F.FileLevel.damaged c.args.files.now c.loop-i.files ls c.loop-i.invariant.same have)
           (c.deref.ensures.value ∙ c.loop-i.invariant.so_far ls have) (λ level is. c.deref-in-loop-i.ensures.value ∙ c.in-Ok.ensures.entries level is) c.in-Ok-merge.ensures;
       rest = rest_on c.args.files.now c.loop-i.files c.loop-i.i c.entries-in-loop-i.new.self c.loop-i.invariant.rest;
       listed =
@@ -67,7 +68,7 @@ returns-in-Err-clause-cause g c =
 pub returns-in-Err-clause-intact : goal.returns-in-Err-clause-intact
 returns-in-Err-clause-intact g c damaged ls have =
     let less : c.loop-i.i < length c.loop-i.files = omega arith in
-    none_have g.F.FileLevel.has_level c.loop-i.files c.loop-i.i c.index-files-i.result c.in-Err.fault ls less c.in-Err.ensures.intact damaged (c.loop-i.invariant.same ls have)
+    none_have g.F.FileLevel.has_level c.loop-i.files c.loop-i.i c.index-files-i.result c.in-Err.fault ls less c.in-Err.ensures.intact damaged (still_levels g.F.FileLevel.has_level g.F.FileLevel.has_entry g.F.FileLevel.reads_as g.F.FileLevel.damaged_at g.F.FileLevel.damaged c.args.files.now c.loop-i.files ls c.loop-i.invariant.same have)
 
 pub returns-in-Err-merge-clause-named : goal.returns-in-Err-merge-clause-named
 returns-in-Err-merge-clause-named g c = told_same g.F.FileLevel.named c.args.files.now c.loop-i.files c.loop-i.i c.index-files-i.result c.entries-in-loop-i.new.self c.entries-in-loop-i.ensures.named c.loop-i.invariant.named
@@ -79,3 +80,13 @@ pub returns-clause-listed : goal.returns-clause-listed
 returns-clause-listed g c =
     let told = c.loop-i.invariant.listed in
     (told.0, subst (λ (n : ℕ). HaveLevels g.F.FileLevel.reads_as (take n c.args.files.now) told.0) (omega (arith, c.loop-i-test.false, c.loop-i.auto.i-end)) told.1, told.2)
+
+pub returns-in-Err-clause-damaged : goal.returns-in-Err-clause-damaged
+returns-in-Err-clause-damaged g c =
+    let less : c.loop-i.i < length c.loop-i.files = omega arith in
+    of_damage c.in-Err.fault (g.F.FileLevel.damaged (get_or c.loop-i.files c.loop-i.i c.index-files-i.result)) (λ shown. OneDamaged (λ f. g.F.FileLevel.damaged f shown) (take c.args.count c.args.files.now))
+    (λ shown is. one_damaged (λ f. g.F.FileLevel.damaged f shown) c.args.files.now c.loop-i.files c.loop-i.i c.args.count c.index-files-i.result less (omega (arith, c.requires, c.loop-i-test.true)) c.loop-i-test.true c.loop-i.invariant.rest is)
+    c.in-Err.ensures.damaged
+
+pub returns-in_err-all-clause-same : goal.returns-in_err-all-clause-same
+returns-in_err-all-clause-same g c = stay_themselves g.F.FileLevel.has_level g.F.FileLevel.has_entry g.F.FileLevel.reads_as g.F.FileLevel.damaged_at g.F.FileLevel.damaged c.args.files.now

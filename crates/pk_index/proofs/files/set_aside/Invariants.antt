@@ -1,4 +1,4 @@
-use Rattle.std.proofs.Common.{◌≡◌, ◌≤◌, ◌+◌, ◌-◌, ◌++◌, drop, take}
+use Rattle.std.proofs.Common.{◌≡◌, ◌≤◌, ◌-◌, ◌++◌, drop, take}
 use Rattle.std.specs.Vec.{vec_capacity}
 use Rattle.pk_index.proofs.files.set_aside.Given as goal
 
