@@ -38,6 +38,8 @@ new_own schema good = record {
   in_hand = tt;
   rise = tt;
   attached = tt;
+  planned = tt;
+  within = omega arith;
 }
 
 pub new_open : (schema : Layout) (journal : Journal) (v : View) → Told v (ReadsAs journal (Some (first_standing schema))) → Told v (λ image. (number : ℕ) → file image number ≡ None)

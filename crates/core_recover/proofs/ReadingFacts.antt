@@ -91,6 +91,8 @@ own_so r codes s segs is told has = record {
   in_hand = subst (AllByRecursion (IsInHand (footers_of segs))) (sym (named_is r)) has.in_hand;
   rise = has.rise;
   attached = has.attached;
+  planned = tt;
+  within = omega arith;
 }
 
 -- its segments have lower numbers than the next file

@@ -1,5 +1,5 @@
 -- What applying leaves, in the words of its clauses.
-use Rattle.std.proofs.Common.{◌≡◌, ap, sym, ◌∙◌, ℕ, ◌+◌, ◌-◌, ◌^◌, List, [], ◌∷◌, ◌++◌, min, arith}
+use Rattle.std.proofs.Common.{◌≡◌, ap, sym, ◌∙◌, ℕ, ◌+◌, ◌-◌, ◌^◌, Option, List, [], ◌∷◌, ◌++◌, min, arith}
 use Rattle.std.specs.List.{AllByRecursion}
 use Rattle.std.proofs.lemmas.List.{map-append}
 use Rattle.dev_traits.specs.Causes.{Counts}
@@ -12,7 +12,7 @@ use Rattle.index_level0.specs.declared.place.Place.{Place}
 use Rattle.pk_values.specs.Schemas.{Layout}
 use Rattle.rowsets.specs.Indexing.{CodeMap, CodeMove, put_all}
 use Rattle.journal_form.specs.Versions.{Rowset as ListedRowset}
-use Rattle.tablet_state.specs.Contents.{contents_of, index_of}
+use Rattle.tablet_state.specs.Contents.{UnderWay, contents_in, index_of}
 use Rattle.tablet_state.specs.State.{Has, SegmentView, Shown, StandsThroughout, Steps, reader_faults, reads_of}
 use Rattle.tablet_state.specs.Readies.{IsChangeOf, IsMade, NewSegment, next_contents}
 use Rattle.tablet_state.specs.Adopting.{AllJoined, AreAdopted, Joined}
@@ -31,11 +31,11 @@ abbrev pub MadeOf : {S : Type 0} → (S → View) → List NewSegment → List P
 MadeOf view made dead entries body current x = IsMade (view x.store) x.contents x.room made dead entries body current
 
 -- what is held next, field by field
-pub next_held : (schema : Layout) (form epoch edit next_file floor : ℕ) (older older' : List (List ListedRowset)) (last current current' : List ListedRowset) (codes codes' : CodeMap) (count count' : ℕ) (entries : List CodeMove)
+pub next_held : (plan : Option UnderWay) (schema : Layout) (form epoch edit next_file floor : ℕ) (older older' : List (List ListedRowset)) (last current current' : List ListedRowset) (codes codes' : CodeMap) (count count' : ℕ) (entries : List CodeMove)
     → older' ≡ older ++ last ∷ [] → current' ≡ current → codes' ≡ put_all entries codes → count' ≡ count
-    → next_contents count current entries (contents_of schema form epoch edit next_file floor older last codes) ≡ contents_of schema form epoch (edit + 1) (next_file + count') floor older' current' codes'
-next_held schema form epoch edit next_file floor older older' last current current' codes codes' count count' entries o u k n =
-    λ i. contents_of schema form epoch (edit + 1) (next_file + sym n i) floor (sym o i) (sym u i) (sym k i)
+    → next_contents count current entries (contents_in plan schema form epoch edit next_file floor older last codes) ≡ contents_in plan schema form epoch (edit + 1) (next_file + count') floor older' current' codes'
+next_held plan schema form epoch edit next_file floor older older' last current current' codes codes' count count' entries o u k n =
+    λ i. contents_in plan schema form epoch (edit + 1) (next_file + sym n i) floor (sym o i) (sym u i) (sym k i)
 
 -- ---- counts
 

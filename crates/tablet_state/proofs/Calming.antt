@@ -5,7 +5,7 @@ use Rattle.dev_traits.proofs.Moments.{calm_leaves, each_still}
 use Rattle.pk_model.specs.declared.books.Book.{Book}
 use Rattle.pk_values.specs.Schemas.{Layout}
 use Rattle.pk_model.specs.declared.calls.Call.TheVariants as call
-use Rattle.tablet_state.specs.Contents.{Contents, contents_of, standing_of, versions_of}
+use Rattle.tablet_state.specs.Contents.{Contents, UnderWay, contents_in, standing_of, versions_of}
 use Rattle.rowsets.specs.Live.{Files}
 use Rattle.rowsets.specs.Indexing.{CodeMap}
 use Rattle.journal_form.specs.Versions.{Rowset as ListedRowset}
@@ -106,6 +106,6 @@ pub keeps_as : (u v : View) (area end : ℕ) (c c' : Contents) (segs segs' : Lis
 keeps_as u v area end c c' segs segs' closed calm same_c same_segs k =
     subst (λ (x : Contents). Keeps v area end x segs' closed) (sym same_c) (subst (λ (gs : List SegmentView). Keeps v area end c gs closed) (sym same_segs) (keeps_calm u v area end c segs closed calm k))
 
-pub same_held : (schema : Layout) (form epoch edit next_file floor : ℕ) (older older' : List (List ListedRowset)) (current : List ListedRowset) (codes codes' : CodeMap) → older' ≡ older → codes' ≡ codes
-    → contents_of schema form epoch edit next_file floor older' current codes' ≡ contents_of schema form epoch edit next_file floor older current codes
-same_held schema form epoch edit next_file floor older older' current codes codes' o k = λ i. contents_of schema form epoch edit next_file floor (o i) current (k i)
+pub same_held : (plan : Option UnderWay) (schema : Layout) (form epoch edit next_file floor : ℕ) (older older' : List (List ListedRowset)) (current : List ListedRowset) (codes codes' : CodeMap) → older' ≡ older → codes' ≡ codes
+    → contents_in plan schema form epoch edit next_file floor older' current codes' ≡ contents_in plan schema form epoch edit next_file floor older current codes
+same_held plan schema form epoch edit next_file floor older older' current codes codes' o k = λ i. contents_in plan schema form epoch edit next_file floor (o i) current (k i)

@@ -22,7 +22,7 @@ use Rattle.journal_form.specs.Versions.{Rowset as ListedRowset}
 use Rattle.kept_versions.specs.Changes.{places_of_changes}
 use Rattle.tablet_state.specs.Holding.{Holds, IsPublication, told_files}
 use Rattle.tablet_state.specs.Contents.{Contents, begun_of, index_of, standing_of}
-use Rattle.tablet_state.specs.State.{book_place}
+use Rattle.tablet_state.specs.State.{book_mark}
 use Rattle.tablet_state.specs.Readies.{AreSealed, IsChangeOf, IsDeed, IsLed, NewSegment, new_files, next_contents}
 use Rattle.tablet_state.proofs.HoldFacts.{publication_is_held}
 
@@ -32,9 +32,9 @@ told_same s first [] (m ∷ made) are = absurd are
 told_same s first (rows ∷ files) [] are = absurd are
 told_same s first (rows ∷ files) (m ∷ made) are = λ i. record { file = first; rows = ap (λ (f : Footer). f.rows) are.2 i } ∷ told_same s (first + 1) files made are.3 i
 
-same_places : (load : Load) (o : Option Plan) → book_place o ≡ book_place (option_map (touch load) o)
-same_places load None = refl
-same_places load (Some p) = refl
+same_marks : (load : Load) (o : Option Plan) → option_map book_mark o ≡ option_map book_mark (option_map (touch load) o)
+same_marks load None = refl
+same_marks load (Some p) = refl
 
 deed_told : (c : Contents) (b : Book) (load : Load) (made : List NewSegment) (dead : List Place) (entries : List CodeMove) (body : List ℕ) (current : List ListedRowset) → schema_fault c.schema.columns c.schema.keys ≡ None
     → (r : IsChangeOf c.schema (index_of c) b load c.next_file made dead entries)
@@ -70,7 +70,7 @@ deed_told c b load made dead entries body current lawful r is =
           subst (λ (x : Index). Holds c.schema (with_files first r.files stored) (standing_of nxt (is.leads.steps kept).0) x (begun_of c) (publish c.schema b load)) index
           (publication_is_held c.schema stored (standing_of c kept) (standing_of nxt (is.leads.steps kept).0) (index_of c) (begun_of c) b load is.version first r.files is.changed r.moves holds (omega arith) (is.leads.steps kept).1 publication);
       schema = refl;
-      begun = λ was. was ∙ same_places load b.plan;
+      begun = λ was. was ∙ same_marks load b.plan;
       closed = refl;
     }
 

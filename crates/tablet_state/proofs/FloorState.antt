@@ -23,7 +23,7 @@ use Rattle.journal_form.specs.declared.records.Record.TheVariants.{Floor}
 use Rattle.journal_form.specs.Versions.{Rowset as ListedRowset}
 use Rattle.journal_bytes.specs.Records.{record_bytes}
 use Rattle.tablet_state.specs.Adopting.{TellsLog}
-use Rattle.tablet_state.specs.Contents.{Contents, contents_of, current_number, worn_of}
+use Rattle.tablet_state.specs.Contents.{Contents, UnderWay, contents_in, current_number, worn_of}
 use Rattle.tablet_state.specs.Floors.{HoldsNeeded, IsFloorMade, is_listed, is_needed, kept_numbers, needed_segments, numbers_planned, raised_contents}
 use Rattle.tablet_state.specs.State.{Has, HasOwn, IsFree, Keeps, SegmentView, Shown, StandsThroughout, Steps}
 use Rattle.tablet_state.proofs.Chain.{some_of}
@@ -41,9 +41,9 @@ abbrev pub FloorMade : {S : Type 0} → (S → View) → ℕ → List ℕ → �
 FloorMade view v keep room body x = IsFloorMade (view x.store) x.contents x.segments v keep room body
 
 -- what is held then, field by field
-pub raised_held : (schema : Layout) (form epoch edit next_file floor v : ℕ) (older older' : List (List ListedRowset)) (current : List ListedRowset) (codes : CodeMap) → older' ≡ drop (v - floor) older
-    → raised_contents v (contents_of schema form epoch edit next_file floor older current codes) ≡ contents_of schema form epoch (edit + 1) next_file v older' current codes
-raised_held schema form epoch edit next_file floor v older older' current codes is = λ i. contents_of schema form epoch (edit + 1) next_file v (sym is i) current codes
+pub raised_held : (plan : Option UnderWay) (schema : Layout) (form epoch edit next_file floor v : ℕ) (older older' : List (List ListedRowset)) (current : List ListedRowset) (codes : CodeMap) → older' ≡ drop (v - floor) older
+    → raised_contents v (contents_in plan schema form epoch edit next_file floor older current codes) ≡ contents_in plan schema form epoch (edit + 1) next_file v older' current codes
+raised_held plan schema form epoch edit next_file floor v older older' current codes is = λ i. contents_in plan schema form epoch (edit + 1) next_file v (sym is i) current codes
 
 -- ---- numbers
 

@@ -10,10 +10,10 @@ use Rattle.journal_form.specs.declared.records.ListedFile.{ListedFile}
 use Rattle.journal_form.specs.declared.records.NewFile.{NewFile}
 use Rattle.journal_form.specs.declared.records.Record.TheVariants.{Floor}
 use Rattle.journal_form.specs.Versions.{Rowset as ListedRowset, bound, current_number as number_in, files_of, floor_fits, raised}
-use Rattle.journal_form.specs.Meaning.{Entry, entries_above, step, step_at}
-use Rattle.tablet_state.specs.Stands.{files_in, told_file}
-use Rattle.tablet_state.specs.Contents.{Contents, all_rowsets, current_number, standing_of, version_of, versions_of}
-use Rattle.tablet_state.specs.Floors.{is_listed, is_needed, needed_segments, kept_numbers, numbers_planned, raised_contents}
+use Rattle.journal_form.specs.Meaning.{Entry, Standing, entries_above, file_numbers, step, step_at}
+use Rattle.tablet_state.specs.Stands.{all_versions, files_in, told_file}
+use Rattle.tablet_state.specs.Contents.{Contents, UnderWay, all_rowsets, current_number, planned_files, standing_of, version_of, versions_of}
+use Rattle.tablet_state.specs.Floors.{is_listed, is_needed, needed, needed_segments, kept_numbers, numbers_planned, raised_contents}
 use Rattle.tablet_state.specs.State.{HasFewFiles, HasOwn, IsAttached, IsInHand, IsReadAs, SegmentView, footers_of, named_files, reader_faults}
 use Rattle.rowsets.specs.Live.{Files}
 use Rattle.tablet_state.proofs.FileFacts.{all-append, all-drop, all-first, all-last, files_grow}
@@ -97,6 +97,26 @@ named_needed c =
 abbrev pub ArePlanned : Contents → List SegmentView → Type 0
 ArePlanned c segs = AllByRecursion (λ n. is_listed (map (λ (g : SegmentView). g.number) segs) n ≡ true) (numbers_planned c.plan)
 
+-- they are those that the invariant speaks of
+planned_numbers : (o : Option UnderWay) → map (λ (f : NewFile). f.file) (planned_files o) ≡ numbers_planned o
+planned_numbers None = refl
+planned_numbers (Some p) = files_numbers (files_of p.rowsets)
+
+hands_listed : (segs : List SegmentView) (fs : List NewFile) → AllByRecursion (IsInHand (footers_of segs)) fs → AllByRecursion (λ (f : NewFile). is_listed (map (λ (g : SegmentView). g.number) segs) f.file ≡ true) fs
+hands_listed segs [] h = tt
+hands_listed segs (f ∷ fs) h = (footer_number segs f.file h.0.footer h.0.there, hands_listed segs fs h.1)
+
+pub are_planned : (c : Contents) (segs : List SegmentView) → HasOwn c segs → ArePlanned c segs
+are_planned c segs own =
+    subst (AllByRecursion (λ n. is_listed (map (λ (g : SegmentView). g.number) segs) n ≡ true)) (planned_numbers c.plan)
+    (all_numbers (λ n. is_listed (map (λ (g : SegmentView). g.number) segs) n ≡ true) (planned_files c.plan) (hands_listed segs (planned_files c.plan) own.planned))
+
+-- each of them is needed
+planned_needed : (c : Contents) → AllByRecursion (λ (f : NewFile). is_needed c f.file ≡ true) (planned_files c.plan)
+planned_needed c =
+    all_files (λ n. is_needed c n ≡ true) (planned_files c.plan)
+    (subst (AllByRecursion (λ n. is_needed c n ≡ true)) (sym (planned_numbers c.plan)) (each_listed (kept_numbers (all_rowsets c)) (numbers_planned c.plan)))
+
 module _ (c : Contents) (v : ℕ) (segs : List SegmentView) (own : HasOwn c segs) (planned : ArePlanned c segs) (due : IsDueFloor c v) where
   abbrev nxt : Contents
   nxt = raised_contents v c
@@ -156,6 +176,8 @@ module _ (c : Contents) (v : ℕ) (segs : List SegmentView) (own : HasOwn c segs
     in_hand = hand_kept (named_files nxt) (named_needed nxt) (fewer (IsInHand (footers_of segs)) own.in_hand);
     rise = subst Rises (sym (numbers_filter tests segs)) (rises_filter tests (map (λ (g : SegmentView). g.number) segs) own.rise);
     attached = all_filter (IsAttached c.schema) (λ (g : SegmentView). tests g.number) segs own.attached;
+    planned = hand_kept (planned_files c.plan) (planned_needed nxt) own.planned;
+    within = own.within;
   }
 
 -- ---- counts

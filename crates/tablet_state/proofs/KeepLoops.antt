@@ -52,15 +52,18 @@ pub one_version : (x : List ListedRowset) → file_numbers x ≡ kept_numbers (x
 one_version x = sym (append-nil (file_numbers x))
 
 -- of all versions, sorted
-pub kept_sorted : (older : List (List ListedRowset)) (current : List ListedRowset) (none first all sorted keep ns : List ℕ) → none ≡ [] → first ≡ none ++ kept_numbers older → all ≡ first ++ file_numbers current → IsPermutation all sorted
-    → keep ≡ filter (is_listed sorted) ns → keep ≡ filter (is_listed (kept_numbers (older ++ current ∷ []))) ns
-kept_sorted older current none first all sorted keep ns empty before behind moved is =
-    is ∙ filter_same (is_listed sorted) (is_listed (kept_numbers (older ++ current ∷ []))) ns
+pub kept_sorted : (older : List (List ListedRowset)) (current : List ListedRowset) (plan none first second all sorted keep ns : List ℕ) → none ≡ [] → first ≡ none ++ kept_numbers older → second ≡ first ++ file_numbers current → all ≡ second ++ plan → IsPermutation all sorted
+    → keep ≡ filter (is_listed sorted) ns → keep ≡ filter (is_listed (kept_numbers (older ++ current ∷ []) ++ plan)) ns
+kept_sorted older current plan none first second all sorted keep ns empty before behind last moved is =
+    is ∙ filter_same (is_listed sorted) (is_listed (kept_numbers (older ++ current ∷ []) ++ plan)) ns
     (λ n. sym (list_any-IsPermutation (λ m. m == n) all sorted moved) ∙ ap (λ (xs : List ℕ). is_listed xs n) whole)
   where
-    whole : all ≡ kept_numbers (older ++ current ∷ [])
-    whole = behind ∙ ap (λ (xs : List ℕ). xs ++ file_numbers current) (before ∙ ap (λ (xs : List ℕ). xs ++ kept_numbers older) empty)
+    versions : second ≡ kept_numbers (older ++ current ∷ [])
+    versions = behind ∙ ap (λ (xs : List ℕ). xs ++ file_numbers current) (before ∙ ap (λ (xs : List ℕ). xs ++ kept_numbers older) empty)
         ∙ ap (λ (xs : List ℕ). kept_numbers older ++ xs) (one_version current) ∙ sym (versions_join older (current ∷ []))
+
+    whole : all ≡ kept_numbers (older ++ current ∷ []) ++ plan
+    whole = last ∙ ap (λ (xs : List ℕ). xs ++ plan) versions
 
 -- ---- segments stay or go
 

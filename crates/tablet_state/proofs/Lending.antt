@@ -14,7 +14,7 @@ use Rattle.journal_form.specs.Versions.{files_of}
 use Rattle.snapshot_scan.specs.Parts.{PartView}
 use Rattle.snapshot_scan.proofs.StepFacts.{same_place}
 use Rattle.snapshot_scan.specs.Snapshots.{fault_count, read_count}
-use Rattle.tablet_state.specs.Contents.{Contents}
+use Rattle.tablet_state.specs.Contents.{Contents, planned_files}
 use Rattle.tablet_state.specs.State.{AreReadAs, HasOwn, IsAttached, IsInHand, IsOpen, IsReadAs, Keeps, SegmentView, Shown, footer_at, footers_of, named_files, reader_faults, segment_of}
 use Rattle.dev_traits.specs.View.{View}
 use Rattle.tablet_state.proofs.FileFacts.{all-first, all-last}
@@ -122,6 +122,8 @@ module _ (old new : List SegmentView) (same : SameButReads old new) where
     next_file = own.next_file;
     few_files = own.few_files;
     in_hand = subst (λ fs. AllByRecursion (IsInHand fs) (named_files c)) (sym lent_footers) own.in_hand;
+    within = own.within;
+    planned = subst (λ fs. AllByRecursion (IsInHand fs) (planned_files c.plan)) (sym lent_footers) own.planned;
     rise = lent_rise own.rise;
     attached = lent_attached c.schema own.attached;
   }

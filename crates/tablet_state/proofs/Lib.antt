@@ -28,3 +28,6 @@ pub mod Raising
 pub mod FloorReplies
 pub mod FloorState
 pub mod MovingFacts
+pub mod EndFacts
+pub mod Ending
+pub mod PlanReplies

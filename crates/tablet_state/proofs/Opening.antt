@@ -16,7 +16,7 @@ use Rattle.version_journal.specs.Images.{IsMeant, IsSaid}
 use Rattle.pk_model.specs.Durable.{durable}
 use Rattle.tablet_state.specs.Stands.{AreSegments, all_versions, files_in}
 use Rattle.tablet_state.specs.Holding.{Holds}
-use Rattle.tablet_state.specs.Contents.{Contents, UnderWay, begun_of, index_of, plan_place, standing_of, versions_of}
+use Rattle.tablet_state.specs.Contents.{Contents, UnderWay, begun_of, index_of, mark_of, standing_of, versions_of}
 use Rattle.tablet_state.specs.State.{HasBook, SegmentView}
 use Rattle.tablet_state.specs.Opening.{IsRead}
 use Rattle.tablet_state.proofs.StandFacts.{opening_holds}
@@ -43,8 +43,8 @@ segments_there s stored (f ∷ fs) image left same h = (
   segments_there s stored fs image left same h.1,
 )
 
-no_place : (o : Option UnderWay) → o ≡ None → plan_place o ≡ None
-no_place o is = ap plan_place is
+no_mark : (o : Option UnderWay) → o ≡ None → option_map mark_of o ≡ None
+no_mark o is = ap (option_map mark_of) is
 
 pub read_has : (u : View) (area end : ℕ) (c : Contents) (segs : List SegmentView) (b : Book) (image : Image) → IsRead u area end c segs b image
     → ((number : ℕ) (bytes : List ℕ) → file image number ≡ Some bytes → EachImage u (λ left. file left number ≡ Some bytes)) → HasBook u area end c segs (durable b)
@@ -66,7 +66,7 @@ read_has u area end c segs b image r files =
             subst (λ (p : Option Rowsets). Holds c.schema r.stands.stored m (index_of c) p (durable b)) plan
             (subst (λ (x : Index). Holds c.schema r.stands.stored m x None (durable b)) index
             (subst (λ (x : Standing). Holds c.schema r.stands.stored x (merged_place r.moved) None (durable b)) (sym r.same) (opening_holds c.schema b image r.stands r.moved r.places)));
-        begun = no_place c.plan r.plan;
+        begun = no_mark c.plan r.plan;
       };
       read = r.read;
     }

@@ -31,7 +31,7 @@ use Rattle.tablet_state.specs.Turns.{StandsEither}
 use Rattle.tablet_state.specs.Adopting.{TellsLog}
 use Rattle.tablet_state.specs.Contents.{Contents, begun_of, index_of, standing_of}
 use Rattle.tablet_state.specs.Floors.{Raises, is_needed, needed_segments, raised_contents}
-use Rattle.tablet_state.specs.State.{Has, HasBook, HasOwn, HasStore, SegmentView, Shown, Steps, book_place, named_files}
+use Rattle.tablet_state.specs.State.{Has, HasBook, HasOwn, HasStore, SegmentView, Shown, Steps, book_mark, named_files}
 use Rattle.tablet_state.proofs.Chain.{some_of}
 use Rattle.tablet_state.proofs.FileFacts.{files_grow}
 use Rattle.tablet_state.proofs.Flooring.{ArePlanned, IsDueFloor, floor_steps, named_needed, reads_raised}
@@ -209,10 +209,10 @@ module _ (u w : View) (area end : ℕ) (c : Contents) (segs : List SegmentView) 
       settled_now : IsSettled area' (bodies ++ body ∷ []) end' w
       settled_now = done bodies has.journal.settled
 
-      same_plan : book_place b.plan ≡ book_place left_book.plan
+      same_plan : option_map book_mark b.plan ≡ option_map book_mark left_book.plan
       same_plan = by (nat_lt (version b) v)
         where
-          by : (t : Bool) → book_place b.plan ≡ book_place (let x : Book = if t then b else record b { floor = max b.floor v; older = drop (v - b.floor) b.older } in x.plan)
+          by : (t : Bool) → option_map book_mark b.plan ≡ option_map book_mark (let x : Book = if t then b else record b { floor = max b.floor v; older = drop (v - b.floor) b.older } in x.plan)
           by true = refl
           by false = refl
 

@@ -7,9 +7,12 @@ use Rattle.key_code.specs.KeyCode.{key_code}
 use Rattle.rowsets.specs.Live.{Version as Rowsets, Index}
 use Rattle.rowsets.specs.Indexing.{CodeMap, by_code}
 use Rattle.journal_form.specs.declared.records.LevelList.{LevelList}
-use Rattle.journal_form.specs.Versions.{Rowset as ListedRowset, Version, Versions}
+use Rattle.journal_form.specs.declared.records.NewFile.{NewFile}
+use Rattle.journal_form.specs.Versions.{Rowset as ListedRowset, Version, Versions, files_of}
 use Rattle.journal_form.specs.Meaning.{Entry, Standing}
-use Rattle.tablet_state.specs.Stands.{part_of}
+use Rattle.kept_versions.specs.Files.{alive}
+use Rattle.tablet_state.specs.declared.marks.PlanMark.{PlanMark}
+use Rattle.tablet_state.specs.Stands.{part_of, told_file}
 
 -- a compaction under way: the place of its begin, its version, and the rowsets with which it began
 pub record UnderWay : Type 0 where
@@ -59,6 +62,20 @@ index_of c = by_code (fits_key c.schema) (key_code c.schema) (get c.codes)
 abbrev pub begun_of : Contents → Option Rowsets
 begun_of c = option_map (λ p. map (λ files. map part_of files) p.rowsets) c.plan
 
+-- the files with which it began
+abbrev pub planned_files : Option UnderWay → List NewFile
+planned_files None = []
+planned_files (Some p) = map told_file (files_of p.rowsets)
+
+-- how many rowsets these were
+abbrev pub planned_rowsets : Option UnderWay → ℕ
+planned_rowsets None = 0
+planned_rowsets (Some p) = length p.rowsets
+
+-- its place, its version, and how many rowsets and live rows it began with
+abbrev pub mark_of : UnderWay → PlanMark
+mark_of p = record { place = p.place; version = p.version; rowsets = length p.rowsets; rows = alive (files_of p.rowsets) }
+
 -- the place of a compaction's begin
 abbrev pub plan_place : Option UnderWay → Option ℕ
 plan_place None = None
@@ -78,3 +95,8 @@ worn_of c = find is_worn (c.next_file ∷ c.edit ∷ current_number c ∷ [])
 abbrev pub contents_of : Layout → ℕ → ℕ → ℕ → ℕ → ℕ → List (List ListedRowset) → List ListedRowset → CodeMap → Contents
 contents_of schema form epoch edit next_file floor older current codes =
     record { schema = schema; form = form; epoch = epoch; edit = edit; floor = floor; older = older; current = current; next_file = next_file; levels = None; codes = codes; plan = None }
+
+-- and with a compaction, where there is one
+abbrev pub contents_in : Option UnderWay → Layout → ℕ → ℕ → ℕ → ℕ → ℕ → List (List ListedRowset) → List ListedRowset → CodeMap → Contents
+contents_in plan schema form epoch edit next_file floor older current codes =
+    record (contents_of schema form epoch edit next_file floor older current codes) { plan = plan }

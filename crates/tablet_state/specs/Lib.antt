@@ -6,6 +6,7 @@ pub mod State
 pub mod Snapshots
 pub mod Readies
 pub mod Floors
+pub mod Plans
 pub mod Opening
 pub mod Adopting
 pub mod Seen

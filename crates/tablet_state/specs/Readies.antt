@@ -1,6 +1,7 @@
 -- What is ready to be published.
 use Rattle.std.specs.Prelude.{◌≡◌, ◌≤◌, ◌<◌, ◌^◌, ⊤, ℕ, ◌+◌, List, [], ◌∷◌, ◌++◌, map, length, All, Option, Some, None, IsTrue, true}
 use Rattle.std.specs.List.{AllByRecursion}
+use Rattle.std.specs.Option.{option_map}
 use Rattle.pk_values.specs.Schemas.{Layout, fits_key}
 use Rattle.pk_values.specs.declared.cells.Value.{Value}
 use Rattle.key_code.specs.KeyCode.{key_code}
@@ -26,8 +27,8 @@ use Rattle.journal_form.specs.Standings.{is_built}
 use Rattle.journal_bytes.specs.Records.{RecordFits, record_bytes}
 use Rattle.kept_versions.specs.Changes.{places_of_changes}
 use Rattle.tablet_state.specs.Holding.{Holds, IsPublication, brings, told_files}
-use Rattle.tablet_state.specs.Contents.{Contents, begun_of, index_of, plan_place, standing_of, worn_of}
-use Rattle.tablet_state.specs.State.{HasFewFiles, Room, book_place}
+use Rattle.tablet_state.specs.Contents.{Contents, begun_of, index_of, mark_of, standing_of, worn_of}
+use Rattle.tablet_state.specs.State.{HasFewFiles, Room, book_mark}
 
 -- a new file: its bytes, where they are told, and its footer
 abbrev pub NewSegment : Type 0
@@ -79,7 +80,8 @@ pub record IsDeed (c : Contents) (b : Book) (first : ℕ) (made : List NewSegmen
       → Holds next.schema (with_files first files stored) (standing_of next (steps kept).0) (index_of next)
       (begun_of next) left
   pub schema : next.schema ≡ c.schema
-  pub begun : plan_place c.plan ≡ book_place b.plan → plan_place next.plan ≡ book_place left.plan
+  pub begun : option_map mark_of c.plan ≡ option_map book_mark b.plan
+      → option_map mark_of next.plan ≡ option_map book_mark left.plan
   pub closed : left.closed ≡ b.closed
 
 -- the body is that of a record that leads from what is held to what is held next

@@ -1,6 +1,8 @@
 -- What contracts see of a state, and which book it has.
 use Rattle.std.specs.Prelude.{◌≡◌, ◌≤◌, ◌<◌, ◌^◌, ℕ, ◌+◌, ◌-◌, ◌==◌, List, [], ◌∷◌, map, length, min, Option, Some, None, IsTrue, Bool, true, false, if◌then◌else◌, Result, Ok, Err}
 use Rattle.std.specs.List.{AllByRecursion}
+use Rattle.std.specs.Option.{option_map}
+use Rattle.std.specs.FinMap.{len}
 use Rattle.pk_values.specs.Schemas.{Layout, schema_fault}
 use Rattle.dev_traits.specs.Image.{Image, area_of, file}
 use Rattle.dev_traits.specs.Reader.{ReaderView}
@@ -23,10 +25,11 @@ use Rattle.journal_form.specs.Versions.{Rowset as ListedRowset, files_of}
 use Rattle.journal_form.specs.Meaning.{Entry, Standing}
 use Rattle.version_journal.specs.Areas.{area_of_epoch}
 use Rattle.version_journal.specs.Images.{IsSaid}
+use Rattle.tablet_state.specs.declared.marks.PlanMark.{PlanMark}
 use Rattle.tablet_state.specs.Stands.{AreSegments, all_versions, files_in}
 use Rattle.tablet_state.specs.Holding.{Holds, IsTold}
 use Rattle.tablet_state.specs.Turns.{StandsEither}
-use Rattle.tablet_state.specs.Contents.{Contents, all_rowsets, begun_of, current_number, index_of, plan_place, standing_of, versions_of, worn_of}
+use Rattle.tablet_state.specs.Contents.{Contents, all_rowsets, begun_of, current_number, index_of, mark_of, planned_files, planned_rowsets, standing_of, versions_of, worn_of}
 
 -- a segment in hand: the number of its file, its reader and its footer
 pub record SegmentView : Type 0 where
@@ -103,7 +106,8 @@ most_files = 2 ^ 44
 abbrev pub HasFewFiles : List ListedRowset → Type 0
 HasFewFiles rowsets = length (files_of rowsets) < most_files
 
--- What a state holds is what some records mean, within the bounds of its numbers; and it has a segment of each file that a kept version names.
+-- What a state holds is what some records mean, within the bounds of its numbers; and it has a segment of each file that a kept version or the compaction under
+-- way names.
 pub record HasOwn (c : Contents) (segments : List SegmentView) : Type 0 where
   pub schema : schema_fault c.schema.columns c.schema.keys ≡ None
   pub kept : List Entry
@@ -116,6 +120,8 @@ pub record HasOwn (c : Contents) (segments : List SegmentView) : Type 0 where
   pub in_hand : AllByRecursion (IsInHand (footers_of segments)) (named_files c)
   pub rise : Rises (map (λ g. g.number) segments)
   pub attached : AllByRecursion (IsAttached c.schema) segments
+  pub planned : AllByRecursion (IsInHand (footers_of segments)) (planned_files c.plan)
+  pub within : planned_rowsets c.plan ≤ length c.current
 
 pub record Keeps (view : View) (area end : ℕ) (c : Contents) (segments : List SegmentView) (closed : Option ℕ) : Type 0 where
   pub own : HasOwn c segments
@@ -132,6 +138,10 @@ pub record IsReadAs (s : Layout) (stored : Files) (segments : List SegmentView) 
 
 abbrev pub AreReadAs : Layout → Files → List SegmentView → List NewFile → Type 0
 AreReadAs s stored segments files = AllByRecursion (IsReadAs s stored segments) files
+
+-- the place, the version, and how many rowsets and rows a book's plan began with
+abbrev pub book_mark : Plan → PlanMark
+book_mark p = record { place = p.place; version = p.version; rowsets = p.rowsets; rows = len p.rows }
 
 abbrev pub book_place : Option Plan → Option ℕ
 book_place None = None
@@ -151,7 +161,7 @@ pub record HasStore (view : View) (area end : ℕ) (c : Contents) (b : Book) : T
   pub journal : HasJournal area end (standing_of c kept) view
   pub files : EachImage view (AreSegments c.schema stored (files_in (all_versions (versions_of c))))
   pub holds : Holds c.schema stored (standing_of c kept) (index_of c) (begun_of c) b
-  pub begun : plan_place c.plan ≡ book_place b.plan
+  pub begun : option_map mark_of c.plan ≡ option_map book_mark b.plan
 
 -- An open state has it: its segments read these files.
 pub record HasBook (view : View) (area end : ℕ) (c : Contents) (segments : List SegmentView) (b : Book) : Type 0 where

@@ -7,11 +7,12 @@ ghost use Rattle.pk_model.specs.declared.calls.Reply.TheVariants as reply;
 ghost use Rattle.tablet_state.specs.Contents.{current_number, worn_of};
 ghost use Rattle.journal_form.specs.declared.records.Record.TheVariants as told;
 ghost use Rattle.journal_bytes.specs.Records.{record_bytes};
-ghost use Rattle.tablet_state.specs.Floors.{HoldsNeeded, IsFloorMade, floored, floor_refusal, is_listed, needed_segments, kept_numbers, raised_contents};
+ghost use Rattle.tablet_state.specs.Floors.{HoldsNeeded, IsFloorMade, floored, floor_refusal, is_listed, needed_segments, kept_numbers, numbers_planned, raised_contents};
 ghost use Rattle.tablet_state.specs.State.{Has, Rests, StandsThroughout, Steps, faults_of};
 
 use crate::State;
 use crate::keeping::{drop_first, floor_body, keep_of, raise};
+use crate::kept_plan::KeptPlan;
 use dev_traits::{Memory, SealedReader, Store};
 use gated_log::Framed;
 use kept_versions::KeptVersion;
@@ -34,18 +35,19 @@ fn floor_parts<R: SealedReader>(
     alloc: Global,
     older: &[KeptVersion],
     current: &KeptVersion,
+    plan: &Option<KeptPlan>,
     segments: &[Segment<R>],
     edit: u64,
     floor: u64,
 ) -> Result<ReadyFloor<R>, Memory>
     ensures floor { IfOk result (λ ready. ready.floor ≡ floor) }
     ensures keep { IfOk result (λ ready. ready.keep.items
-        ≡ filter (is_listed (kept_numbers (older.now ++ current.now ∷ []))) (map (λ g. g.number) segments.now)) }
+        ≡ filter (is_listed (kept_numbers (older.now ++ current.now ∷ []) ++ numbers_planned plan.now)) (map (λ g. g.number) segments.now)) }
     ensures empty { IfOk result (λ ready. ready.left.items ≡ []) }
     ensures room { IfOk result (λ ready. length segments.now ≤ vec_capacity ready.left) }
     ensures body { IfOk result (λ ready. ready.body ≡ record_bytes edit (told.Floor floor)) }
 {
-    let keep = keep_of(alloc, older, current, segments)?;
+    let keep = keep_of(alloc, older, current, plan, segments)?;
     let left = Vec::with_capacity(alloc, segments.len())?;
     let body = floor_body(alloc, edit, floor)?;
     Ok(ReadyFloor {
@@ -111,6 +113,7 @@ impl<S: Store> State<S> {
             alloc,
             &self.older[from..],
             &self.current,
+            &self.plan,
             self.segments.as_slice(),
             self.edit + 1,
             floor,

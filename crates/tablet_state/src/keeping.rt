@@ -9,10 +9,11 @@ ghost use Rattle.journal_form.specs.declared.records.Record.TheVariants as told;
 ghost use Rattle.journal_bytes.specs.Records.{record_bytes};
 ghost use Rattle.tablet_state.specs.Adopting.{TellsLog};
 ghost use Rattle.journal_form.specs.Meaning.{file_numbers};
-ghost use Rattle.tablet_state.specs.Floors.{Raises, is_listed, kept_numbers};
+ghost use Rattle.tablet_state.specs.Floors.{Raises, is_listed, kept_numbers, numbers_planned};
 ghost use Rattle.tablet_state.specs.Seen.{segment_seen, segments_of};
 ghost use Rattle.tablet_state.specs.State.{reader_faults};
 
+use crate::kept_plan::KeptPlan;
 use dev_traits::{Memory, SealedReader, Store};
 use gated_log::{Framed, Log, LogFault, append, frame};
 use journal_bytes::write_record;
@@ -77,19 +78,31 @@ fn listed_of<R: SealedReader>(
     Ok(keep)
 }
 
-// The numbers of the segments whose files versions name, in the order of the segments.
+// The numbers of a compaction's files join others.
+fn note_plan(numbers: &mut Vec<u64>, plan: &Option<KeptPlan>) -> Result<(), Memory>
+    ensures { OnOk result (numbers.new.items ≡ numbers.old.items ++ numbers_planned plan.now) }
+{
+    match plan {
+        Some(plan) => note_version(numbers, plan.rowsets()),
+        None => Ok(()),
+    }
+}
+
+// The numbers of the segments whose files versions or a compaction name, in the order of the segments.
 pub(crate) fn keep_of<R: SealedReader>(
     alloc: Global,
     older: &[KeptVersion],
     current: &KeptVersion,
+    plan: &Option<KeptPlan>,
     segments: &[Segment<R>],
 ) -> Result<Vec<u64>, Memory>
     ensures { IfOk result (λ keep. keep.items
-        ≡ filter (is_listed (kept_numbers (older.now ++ current.now ∷ []))) (map (λ g. g.number) segments.now)) }
+        ≡ filter (is_listed (kept_numbers (older.now ++ current.now ∷ []) ++ numbers_planned plan.now)) (map (λ g. g.number) segments.now)) }
 {
     let mut numbers = Vec::new(alloc);
     note_versions(&mut numbers, older)?;
     note_version(&mut numbers, current)?;
+    note_plan(&mut numbers, plan)?;
     numbers.sort_unstable();
     let keep = listed_of(alloc, segments, numbers.as_slice())?;
     Ok(keep)

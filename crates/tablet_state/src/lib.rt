@@ -3,13 +3,19 @@
 
 mod adopting;
 mod changes;
+mod compacting;
 mod copies;
+mod ending;
+mod ends;
 mod floor;
 mod hands;
 mod keeping;
+mod kept_plan;
 mod laws;
 mod making;
+mod marks;
 mod parts;
+mod plans;
 mod ready;
 mod snapshots;
 mod state;
@@ -17,8 +23,11 @@ mod turns;
 
 pub use changes::{Change, Ready};
 pub use copies::told_keys;
+pub use ending::ReadyEnd;
+pub use ends::Ended;
 pub use floor::ReadyFloor;
 pub use laws::{holding, replying, standing};
+pub use marks::PlanMark;
 pub use parts::StateParts;
 pub use ready::ReadyFault;
 pub use state::State;

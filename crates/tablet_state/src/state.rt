@@ -9,6 +9,7 @@ ghost use Rattle.pk_model.specs.declared.books.Book.{Book};
 ghost use Rattle.tablet_state.specs.Contents.{contents_of, current_number, index_of};
 
 use crate::StateParts;
+use crate::kept_plan::KeptPlan;
 use dev_traits::{FileMaker, SealedReader, Store};
 use gated_log::Log;
 use index_level0::{KeyBytes, Place};
@@ -33,12 +34,13 @@ pub struct State<S: Store> {
     pub(crate) current: KeptVersion,
     pub(crate) segments: Vec<Segment<S::Reader>>,
     pub(crate) index: KeyIndex,
+    pub(crate) plan: Option<KeptPlan>,
     pub(crate) closed: Option<u64>,
 }
 
 impl<S: Store> Model for State<S> {
     ghost use Rattle.std.specs.Prelude.{◌-◌, vec_len, vec_capacity};
-    ghost use Rattle.tablet_state.specs.Contents.{contents_of};
+    ghost use Rattle.tablet_state.specs.Contents.{contents_in};
     ghost use Rattle.tablet_state.specs.State.{Shown, Keeps};
     ghost use Rattle.tablet_state.specs.Codes.{coded_shown};
     ghost use Rattle.tablet_state.specs.Seen.{segments_of};
@@ -52,13 +54,13 @@ impl<S: Store> Model for State<S> {
       maker_faults = (S.Maker.view s.maker).faults;
       area = s.log.area;
       end = s.log.end;
-      contents = contents_of s.schema s.form s.epoch s.edit s.next_file s.floor s.older.items s.current s.index.map;
+      contents = contents_in s.plan s.schema s.form s.epoch s.edit s.next_file s.floor s.older.items s.current s.index.map;
       segments = segments_of S.Reader.view s.segments.items;
       room = record { versions = vec_capacity s.older - vec_len s.older; segments = vec_capacity s.segments - vec_len s.segments; keys = s.index.spare };
       closed = s.closed;
     } };
 
-    ghost invariant = { λ s. Keeps (S.view s.store) s.log.area s.log.end (contents_of s.schema s.form s.epoch s.edit s.next_file s.floor s.older.items s.current s.index.map) (segments_of S.Reader.view s.segments.items) s.closed };
+    ghost invariant = { λ s. Keeps (S.view s.store) s.log.area s.log.end (contents_in s.plan s.schema s.form s.epoch s.edit s.next_file s.floor s.older.items s.current s.index.map) (segments_of S.Reader.view s.segments.items) s.closed };
 }
 
 impl<S: Store> State<S> {
@@ -110,6 +112,7 @@ impl<S: Store> State<S> {
             current,
             segments,
             index,
+            plan: None,
             closed: None,
         }
     }

@@ -7,7 +7,7 @@ use Rattle.pk_model.specs.Books.{publish}
 use Rattle.index_level0.specs.declared.place.Place.{Place}
 use Rattle.rowsets.specs.Indexing.{CodeMove}
 use Rattle.journal_form.specs.Versions.{Rowset as ListedRowset}
-use Rattle.tablet_state.specs.Contents.{Contents, contents_of}
+use Rattle.tablet_state.specs.Contents.{Contents, contents_in}
 use Rattle.tablet_state.specs.State.{HasBook, HasOwn, IsFree, IsOpen, SegmentView, Shown, faults_of, reader_faults, reads_of}
 use Rattle.tablet_state.specs.Readies.{IsMade, NewSegment, next_contents}
 use Rattle.tablet_state.specs.Seen.{segments_of}
@@ -30,7 +30,7 @@ invariant_of-self g c =
     let dead : List Place = c.args.ready.change.dead.items in
     let entries : List CodeMove = c.args.ready.change.index.items in
     let at = c.self.inside in
-    let held : Contents = contents_of at.schema at.form at.epoch at.edit at.next_file at.floor at.older.items at.current at.index.map in
+    let held : Contents = contents_in at.plan at.schema at.form at.epoch at.edit at.next_file at.floor at.older.items at.current at.index.map in
     let segs : List SegmentView = segments_of read at.segments.items in
     let u : View = view at.store in
     let open_ : at.closed ≡ None = ap (λ (x : Shown g.row.S.Denot). x.closed) c.self.view_is ∙ c.requires.open in
@@ -40,8 +40,8 @@ invariant_of-self g c =
     let w : View = view c.commit-committed.new.store in
     let segs' : List SegmentView = segments_of read c.commit-committed.new.segments.items in
     let many : vec_len c.args.ready.change.files ≡ length made = c.args.ready.change.files.ok.0 ∙ sym (length-map c.args.ready.change.files.items _) in
-    let next_is : next_contents (length made) c.args.ready.current entries held ≡ contents_of at.schema at.form at.epoch (at.edit + 1) (at.next_file + c.len-count.result) at.floor c.push_reserved.new.self.items c.replace-last.new.dest c.put_all.new.self.map =
-    next_held at.schema at.form at.epoch at.edit at.next_file at.floor at.older.items c.push_reserved.new.self.items at.current c.args.ready.current c.replace-last.new.dest at.index.map c.put_all.new.self.map (length made) c.len-count.result entries
+    let next_is : next_contents (length made) c.args.ready.current entries held ≡ contents_in at.plan at.schema at.form at.epoch (at.edit + 1) (at.next_file + c.len-count.result) at.floor c.push_reserved.new.self.items c.replace-last.new.dest c.put_all.new.self.map =
+    next_held at.plan at.schema at.form at.epoch at.edit at.next_file at.floor at.older.items c.push_reserved.new.self.items at.current c.args.ready.current c.replace-last.new.dest at.index.map c.put_all.new.self.map (length made) c.len-count.result entries
     (c.push_reserved.ensures.items ∙ ap (λ (v : List ListedRowset). at.older.items ++ v ∷ []) c.replace-last.ensures.value) c.replace-last.ensures.after c.put_all.ensures (c.len-count.ensures ∙ many) in
     record {
       own = subst (λ (x : Contents). HasOwn x segs') next_is (own_next u held _ segs segs' made dead entries c.args.ready.body c.args.ready.current own below r c.in-Ok.ensures.all_joined);
@@ -58,7 +58,7 @@ returns-in-Ok-clause-turn g c b load =
     let dead : List Place = c.args.ready.change.dead.items in
     let entries : List CodeMove = c.args.ready.change.index.items in
     let at = c.self.inside in
-    let held : Contents = contents_of at.schema at.form at.epoch at.edit at.next_file at.floor at.older.items at.current at.index.map in
+    let held : Contents = contents_in at.plan at.schema at.form at.epoch at.edit at.next_file at.floor at.older.items at.current at.index.map in
     let segs : List SegmentView = segments_of read at.segments.items in
     let u : View = view at.store in
     let open_ : at.closed ≡ None = ap (λ (x : Shown g.row.S.Denot). x.closed) c.self.view_is ∙ c.requires.open in
@@ -68,8 +68,8 @@ returns-in-Ok-clause-turn g c b load =
     let w : View = view c.commit-committed.new.store in
     let segs' : List SegmentView = segments_of read c.commit-committed.new.segments.items in
     let many : vec_len c.args.ready.change.files ≡ length made = c.args.ready.change.files.ok.0 ∙ sym (length-map c.args.ready.change.files.items _) in
-    let next_is : next_contents (length made) c.args.ready.current entries held ≡ contents_of at.schema at.form at.epoch (at.edit + 1) (at.next_file + c.len-count.result) at.floor c.push_reserved.new.self.items c.replace-last.new.dest c.put_all.new.self.map =
-    next_held at.schema at.form at.epoch at.edit at.next_file at.floor at.older.items c.push_reserved.new.self.items at.current c.args.ready.current c.replace-last.new.dest at.index.map c.put_all.new.self.map (length made) c.len-count.result entries
+    let next_is : next_contents (length made) c.args.ready.current entries held ≡ contents_in at.plan at.schema at.form at.epoch (at.edit + 1) (at.next_file + c.len-count.result) at.floor c.push_reserved.new.self.items c.replace-last.new.dest c.put_all.new.self.map =
+    next_held at.plan at.schema at.form at.epoch at.edit at.next_file at.floor at.older.items c.push_reserved.new.self.items at.current c.args.ready.current c.replace-last.new.dest at.index.map c.put_all.new.self.map (length made) c.len-count.result entries
     (c.push_reserved.ensures.items ∙ ap (λ (v : List ListedRowset). at.older.items ++ v ∷ []) c.replace-last.ensures.value) c.replace-last.ensures.after c.put_all.ensures (c.len-count.ensures ∙ many) in
     subst (TurnOf view made dead entries c.args.seq b load (reply.Published (at.floor + c.len.result)) _) c.self.view_is (λ h is.
     let has : HasBook u at.log.area at.log.end held segs b = h.opened open_ in
@@ -86,7 +86,7 @@ returns-in-Ok-clause-any_moment g c b load =
     let dead : List Place = c.args.ready.change.dead.items in
     let entries : List CodeMove = c.args.ready.change.index.items in
     let at = c.self.inside in
-    let held : Contents = contents_of at.schema at.form at.epoch at.edit at.next_file at.floor at.older.items at.current at.index.map in
+    let held : Contents = contents_in at.plan at.schema at.form at.epoch at.edit at.next_file at.floor at.older.items at.current at.index.map in
     let segs : List SegmentView = segments_of read at.segments.items in
     let u : View = view at.store in
     let open_ : at.closed ≡ None = ap (λ (x : Shown g.row.S.Denot). x.closed) c.self.view_is ∙ c.requires.open in
@@ -108,7 +108,7 @@ returns-in-Ok-clause-unfailed g c =
     let dead : List Place = c.args.ready.change.dead.items in
     let entries : List CodeMove = c.args.ready.change.index.items in
     let at = c.self.inside in
-    let held : Contents = contents_of at.schema at.form at.epoch at.edit at.next_file at.floor at.older.items at.current at.index.map in
+    let held : Contents = contents_in at.plan at.schema at.form at.epoch at.edit at.next_file at.floor at.older.items at.current at.index.map in
     let segs : List SegmentView = segments_of read at.segments.items in
     let u : View = view at.store in
     let open_ : at.closed ≡ None = ap (λ (x : Shown g.row.S.Denot). x.closed) c.self.view_is ∙ c.requires.open in
@@ -128,7 +128,7 @@ returns-in-Ok-clause-reads g c =
     let dead : List Place = c.args.ready.change.dead.items in
     let entries : List CodeMove = c.args.ready.change.index.items in
     let at = c.self.inside in
-    let held : Contents = contents_of at.schema at.form at.epoch at.edit at.next_file at.floor at.older.items at.current at.index.map in
+    let held : Contents = contents_in at.plan at.schema at.form at.epoch at.edit at.next_file at.floor at.older.items at.current at.index.map in
     let segs : List SegmentView = segments_of read at.segments.items in
     let u : View = view at.store in
     let open_ : at.closed ≡ None = ap (λ (x : Shown g.row.S.Denot). x.closed) c.self.view_is ∙ c.requires.open in
@@ -148,7 +148,7 @@ invariant_of-self-in-Err g c =
     let dead : List Place = c.args.ready.change.dead.items in
     let entries : List CodeMove = c.args.ready.change.index.items in
     let at = c.self.inside in
-    let held : Contents = contents_of at.schema at.form at.epoch at.edit at.next_file at.floor at.older.items at.current at.index.map in
+    let held : Contents = contents_in at.plan at.schema at.form at.epoch at.edit at.next_file at.floor at.older.items at.current at.index.map in
     let segs : List SegmentView = segments_of read at.segments.items in
     let u : View = view at.store in
     let open_ : at.closed ≡ None = ap (λ (x : Shown g.row.S.Denot). x.closed) c.self.view_is ∙ c.requires.open in
@@ -170,7 +170,7 @@ returns-clause-turn g c b load =
     let dead : List Place = c.args.ready.change.dead.items in
     let entries : List CodeMove = c.args.ready.change.index.items in
     let at = c.self.inside in
-    let held : Contents = contents_of at.schema at.form at.epoch at.edit at.next_file at.floor at.older.items at.current at.index.map in
+    let held : Contents = contents_in at.plan at.schema at.form at.epoch at.edit at.next_file at.floor at.older.items at.current at.index.map in
     let segs : List SegmentView = segments_of read at.segments.items in
     let u : View = view at.store in
     let open_ : at.closed ≡ None = ap (λ (x : Shown g.row.S.Denot). x.closed) c.self.view_is ∙ c.requires.open in
@@ -192,7 +192,7 @@ returns-clause-any_moment g c b load =
     let dead : List Place = c.args.ready.change.dead.items in
     let entries : List CodeMove = c.args.ready.change.index.items in
     let at = c.self.inside in
-    let held : Contents = contents_of at.schema at.form at.epoch at.edit at.next_file at.floor at.older.items at.current at.index.map in
+    let held : Contents = contents_in at.plan at.schema at.form at.epoch at.edit at.next_file at.floor at.older.items at.current at.index.map in
     let segs : List SegmentView = segments_of read at.segments.items in
     let u : View = view at.store in
     let open_ : at.closed ≡ None = ap (λ (x : Shown g.row.S.Denot). x.closed) c.self.view_is ∙ c.requires.open in
@@ -214,7 +214,7 @@ returns-clause-counted g c =
     let dead : List Place = c.args.ready.change.dead.items in
     let entries : List CodeMove = c.args.ready.change.index.items in
     let at = c.self.inside in
-    let held : Contents = contents_of at.schema at.form at.epoch at.edit at.next_file at.floor at.older.items at.current at.index.map in
+    let held : Contents = contents_in at.plan at.schema at.form at.epoch at.edit at.next_file at.floor at.older.items at.current at.index.map in
     let segs : List SegmentView = segments_of read at.segments.items in
     let u : View = view at.store in
     let open_ : at.closed ≡ None = ap (λ (x : Shown g.row.S.Denot). x.closed) c.self.view_is ∙ c.requires.open in
@@ -234,7 +234,7 @@ returns-clause-reads g c =
     let dead : List Place = c.args.ready.change.dead.items in
     let entries : List CodeMove = c.args.ready.change.index.items in
     let at = c.self.inside in
-    let held : Contents = contents_of at.schema at.form at.epoch at.edit at.next_file at.floor at.older.items at.current at.index.map in
+    let held : Contents = contents_in at.plan at.schema at.form at.epoch at.edit at.next_file at.floor at.older.items at.current at.index.map in
     let segs : List SegmentView = segments_of read at.segments.items in
     let u : View = view at.store in
     let open_ : at.closed ≡ None = ap (λ (x : Shown g.row.S.Denot). x.closed) c.self.view_is ∙ c.requires.open in

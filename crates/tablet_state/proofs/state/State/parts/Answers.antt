@@ -3,7 +3,7 @@ use Rattle.std.proofs.lemmas.Result.{IfOk-weaker}
 use Rattle.dev_traits.proofs.Moments.{calm_none}
 use Rattle.journal_form.specs.Versions.{Rowset as ListedRowset, files_of}
 use Rattle.snapshot_scan.specs.Parts.{seen}
-use Rattle.tablet_state.specs.Contents.{contents_of}
+use Rattle.tablet_state.specs.Contents.{contents_in}
 use Rattle.tablet_state.specs.Seen.{segments_of}
 use Rattle.tablet_state.specs.Snapshots.{ArePartsOf, IsKept, rowsets_at}
 use Rattle.tablet_state.specs.State.{HasOwn, SegmentView, Shown, faults_of, reader_faults}
@@ -14,7 +14,7 @@ use Rattle.tablet_state.proofs.state.State.parts.Goals as goal
 
 pub version_at-version-requires : goal.version_at-version-requires
 version_at-version-requires g c =
-    let kept : IsKept (contents_of c.self.inside.schema c.self.inside.form c.self.inside.epoch c.self.inside.edit c.self.inside.next_file c.self.inside.floor c.self.inside.older.items c.self.inside.current c.self.inside.index.map) c.args.v =
+    let kept : IsKept (contents_in c.self.inside.plan c.self.inside.schema c.self.inside.form c.self.inside.epoch c.self.inside.edit c.self.inside.next_file c.self.inside.floor c.self.inside.older.items c.self.inside.current c.self.inside.index.map) c.args.v =
     subst (λ (x : Shown g.row.S.Denot). IsKept x.contents c.args.v) (sym c.self.view_is) c.requires in
     let high = kept.1 in
     let low = kept.0 in
@@ -24,7 +24,7 @@ version_at-version-requires g c =
 pub parts_of-requires-clause-there : goal.parts_of-requires-clause-there
 parts_of-requires-clause-there g c =
     let at = c.self.inside in
-    version_found (contents_of at.schema at.form at.epoch at.edit at.next_file at.floor at.older.items at.current at.index.map) (segments_of g.S.Reader.SealedReader.view at.segments.items) c.self.invariant.own
+    version_found (contents_in at.plan at.schema at.form at.epoch at.edit at.next_file at.floor at.older.items at.current at.index.map) (segments_of g.S.Reader.SealedReader.view at.segments.items) c.self.invariant.own
     (c.args.v - at.floor) c.version_at-version.result.now
     (ap (λ (ws : List (List ListedRowset)). slice_get (ws ++ at.current ∷ []) (c.args.v - at.floor)) (sym c.as_slice.ensures.value) ∙ c.version_at-version.ensures)
 

@@ -7,7 +7,7 @@ use Rattle.std.proofs.lemmas.List.{length-map}
 use Rattle.segment_write.specs.declared.segments.Made.{Made}
 use Rattle.index_level0.specs.declared.place.Place.{Place}
 use Rattle.journal_form.specs.declared.records.NewFile.{NewFile}
-use Rattle.tablet_state.specs.Contents.{Contents, contents_of, current_number}
+use Rattle.tablet_state.specs.Contents.{Contents, contents_in, current_number}
 use Rattle.tablet_state.specs.State.{HasOwn, HasRoom, SegmentView, Shown, refusal_of}
 use Rattle.tablet_state.specs.Readies.{AreInFields, IsMade, IsMadeOf, IsPublished, NewSegment, new_files}
 use Rattle.tablet_state.specs.Seen.{segments_of}
@@ -23,7 +23,7 @@ next_version-requires-clause-files g c =
     let seen : Made g.row.S-Maker.Denot g.row.S-Maker-Sealed.Denot g.S.Maker.FileMaker → NewSegment = λ m. (g.S.Maker.FileMaker.sealed_bytes m.sealed, m.footer) in
     let made : List NewSegment = map seen c.args.change.files.items in
     let at = c.self.inside in
-    let held : Contents = contents_of at.schema at.form at.epoch at.edit at.next_file at.floor at.older.items at.current at.index.map in
+    let held : Contents = contents_in at.plan at.schema at.form at.epoch at.edit at.next_file at.floor at.older.items at.current at.index.map in
     let segs : List SegmentView = segments_of g.S.Reader.SealedReader.view at.segments.items in
     let own : HasOwn held segs = c.self.invariant.own in
     let goes : Goes held at.closed = goes_on held segs at.closed own (subst (λ (x : Shown g.row.S.Denot). refusal_of x ≡ None) (sym c.self.view_is) c.requires.goes) in
@@ -40,7 +40,7 @@ returns-clause-made g c =
     let seen : Made g.row.S-Maker.Denot g.row.S-Maker-Sealed.Denot g.S.Maker.FileMaker → NewSegment = λ m. (g.S.Maker.FileMaker.sealed_bytes m.sealed, m.footer) in
     let made : List NewSegment = map seen c.args.change.files.items in
     let at = c.self.inside in
-    let held : Contents = contents_of at.schema at.form at.epoch at.edit at.next_file at.floor at.older.items at.current at.index.map in
+    let held : Contents = contents_in at.plan at.schema at.form at.epoch at.edit at.next_file at.floor at.older.items at.current at.index.map in
     let segs : List SegmentView = segments_of g.S.Reader.SealedReader.view at.segments.items in
     let own : HasOwn held segs = c.self.invariant.own in
     let goes : Goes held at.closed = goes_on held segs at.closed own (subst (λ (x : Shown g.row.S.Denot). refusal_of x ≡ None) (sym c.self.view_is) c.requires.goes) in
@@ -72,7 +72,7 @@ returns-in-Err-next_version-clause-live g c b load =
     let made : List NewSegment = map seen c.args.change.files.items in
     let dead : List Place = c.args.change.dead.items in
     let at = c.self.inside in
-    let held : Contents = contents_of at.schema at.form at.epoch at.edit at.next_file at.floor at.older.items at.current at.index.map in
+    let held : Contents = contents_in at.plan at.schema at.form at.epoch at.edit at.next_file at.floor at.older.items at.current at.index.map in
     let segs : List SegmentView = segments_of g.S.Reader.SealedReader.view at.segments.items in
     let own : HasOwn held segs = c.self.invariant.own in
     let goes : Goes held at.closed = goes_on held segs at.closed own (subst (λ (x : Shown g.row.S.Denot). refusal_of x ≡ None) (sym c.self.view_is) c.requires.goes) in

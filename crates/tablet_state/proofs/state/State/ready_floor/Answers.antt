@@ -2,8 +2,8 @@ use Rattle.std.proofs.Common.{◌≡◌, ◌-◌, ◌<◌, ◌≤◌, ◌∙◌,
 use Rattle.std.specs.List.{filter}
 use Rattle.std.proofs.lemmas.List.{append-nil, length-map}
 use Rattle.segment_read.specs.declared.segments.Segment.{Segment}
-use Rattle.tablet_state.specs.Contents.{Contents, contents_of, current_number, worn_of}
-use Rattle.tablet_state.specs.Floors.{is_listed, kept_numbers}
+use Rattle.tablet_state.specs.Contents.{Contents, contents_in, current_number, worn_of}
+use Rattle.tablet_state.specs.Floors.{is_listed, kept_numbers, numbers_planned}
 use Rattle.tablet_state.specs.Seen.{segments_of}
 use Rattle.tablet_state.specs.State.{SegmentView, Shown}
 use Rattle.tablet_state.proofs.FloorReplies.{floor_memory, on_err}
@@ -21,19 +21,18 @@ pub returns-clause-made : goal.returns-clause-made
 returns-clause-made g c =
     let read = g.S.Reader.SealedReader.view in
     let at = c.self.inside in
-    let held : Contents = contents_of at.schema at.form at.epoch at.edit at.next_file at.floor at.older.items at.current at.index.map in
+    let held : Contents = contents_in at.plan at.schema at.form at.epoch at.edit at.next_file at.floor at.older.items at.current at.index.map in
     let segs : List SegmentView = segments_of read at.segments.items in
     let v : ℕ = c.args.floor in
     let new = c.take_calls.new.self in
     let here : held ≡ c.args.self.now.contents = ap (λ (x : Shown g.row.S.Denot). x.contents) c.self.view_is in
     let same_segs : segs ≡ c.args.self.now.segments = ap (λ (x : Shown g.row.S.Denot). x.segments) c.self.view_is in
     let number : Segment g.row.S-Reader.Denot → ℕ = λ x. x.number in
-    let left : List ℕ = kept_numbers (drop (v - at.floor) at.older.items ++ at.current ∷ []) in
-    let keep_is : c.in_ok-ready.ready.keep.items ≡ filter (is_listed (left ++ [])) (map (λ (x : SegmentView). x.number) segs) =
-    c.in_ok-ready.ensures.keep ∙ (λ i. filter (is_listed (kept_numbers (behind (v - at.floor) c.deref.result.now i ++ at.current ∷ []))) (map number (c.as_slice.ensures.value i)))
-    ∙ (λ i. filter (is_listed (kept_numbers (drop (v - at.floor) (c.deref.ensures.value i) ++ at.current ∷ []))) (map number at.segments.items))
-    ∙ ap (filter (is_listed left)) (sym (seen_numbers read at.segments.items))
-    ∙ ap (λ (ns : List ℕ). filter (is_listed ns) (map (λ (x : SegmentView). x.number) segs)) (sym (append-nil left)) in
+    let left : List ℕ = kept_numbers (drop (v - at.floor) at.older.items ++ at.current ∷ []) ++ numbers_planned at.plan in
+    let keep_is : c.in_ok-ready.ready.keep.items ≡ filter (is_listed left) (map (λ (x : SegmentView). x.number) segs) =
+    c.in_ok-ready.ensures.keep ∙ (λ i. filter (is_listed (kept_numbers (behind (v - at.floor) c.deref.result.now i ++ at.current ∷ []) ++ numbers_planned at.plan)) (map number (c.as_slice.ensures.value i)))
+    ∙ (λ i. filter (is_listed (kept_numbers (drop (v - at.floor) (c.deref.ensures.value i) ++ at.current ∷ []) ++ numbers_planned at.plan)) (map number at.segments.items))
+    ∙ ap (filter (is_listed left)) (sym (seen_numbers read at.segments.items)) in
     let long : length segs ≡ length c.as_slice.result.now = length-map at.segments.items _ ∙ ap length (sym c.as_slice.ensures.value) in
     floor_made (g.S.Store.view new.store) held new.contents segs new.segments v c.in_ok-ready.ready.keep.items (vec_capacity c.in_ok-ready.ready.left) c.in_ok-ready.ready.body
     (subst (λ (x : Contents). worn_of x ≡ None) (sym here) c.requires.unworn) (subst (λ (x : Contents). x.floor < v) (sym here) c.requires.above) (subst (λ (x : Contents). v ≤ current_number x) (sym here) c.requires.reached)
