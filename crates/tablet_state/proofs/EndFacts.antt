@@ -101,13 +101,12 @@ changes_compacted replaced files before changed h =
 pub end_fits : (edit version replaced : ℕ) (files : List NewFile) (changed : List DeadRows) → edit < 2 ^ 64 → version < 2 ^ 64 → replaced < 2 ^ 64 → AreInFields files → AreInRange changed → RecordFits edit (Compact version replaced files changed None)
 end_fits edit version replaced files changed le lv lr fs cs = (
   le,
-  (lv, (lr, ((fs.count, (refl, λ k d lt. let f = fs.each k d lt in (f.0, f.1))), ((cs.count, (refl, λ k d lt. let c = cs.each k d lt in (c.file, (c.count, (refl, c.rows))))), ?)))),
+  (lv, (lr, ((fs.count, (refl, λ k d lt. let f = fs.each k d lt in (f.0, f.1))), ((cs.count, (refl, λ k d lt. let c = cs.each k d lt in (c.file, (c.count, (refl, c.rows))))), tt)))),
 )
 
 module _ (c : Contents) (made : List NewSegment) (dead : List Place) (entries : List CodeMove) (body : List ℕ) (current : List ListedRowset)
     (edit : c.edit + 1 < 2 ^ 63) (version : current_number c < 2 ^ 63) (within : planned_rowsets c.plan ≤ length c.current) (below : c.next_file + length made < 2 ^ 63)
-    (p : IsEndTold c.current (planned_rowsets c.plan) (new_files c.next_file made) dead (current_number c) (c.edit + 1) current body)
-    (fits : RecordFits (c.edit + 1) (Compact (current_number c) (planned_rowsets c.plan) (new_files c.next_file made) p.changed None)) where
+    (p : IsEndTold c.current (planned_rowsets c.plan) (new_files c.next_file made) dead (current_number c) (c.edit + 1) current body) where
   abbrev files : List NewFile
   files = new_files c.next_file made
 
@@ -162,7 +161,7 @@ module _ (c : Contents) (made : List NewSegment) (dead : List Place) (entries : 
   is_end_led = record {
     changed = p.changed;
     places = p.places;
-    leads = record { spelled = p.spelled; fits = fits; steps = λ kept. (kept_above (versions_of c).older kept entry, steps_at kept) };
+    leads = record { spelled = p.spelled; fits = p.fits; steps = λ kept. (kept_above (versions_of c).older kept entry, steps_at kept) };
     current_is = p.current_is;
   }
 

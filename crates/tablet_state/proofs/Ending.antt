@@ -121,10 +121,10 @@ module _ (u w : View) (area end : ℕ) (c : Contents) (segs : List SegmentView) 
       ∙ ap (answer_end b) (ap (λ (o : Option Plan). plan_at o p.place) plan_is ∙ ap (λ (t : Bool). if t then Some p else None) (eq-eqb p.place p.place refl))
 
   -- the compaction ended
-  pub ended_step : {S : Type 0} (view : S → View) (st : Shown S) (before after rows late_ : ℕ) → st.closed ≡ None → st.contents.schema ≡ c.schema → before ≡ length c.current → after ≡ length current
+  pub ended_step : {S : Type 0} (view : S → View) (st : Shown S) (area' end' before after rows late_ : ℕ) → st.closed ≡ None → st.contents.schema ≡ c.schema → before ≡ length c.current → after ≡ length current
       → ((v : UnderWay) → c.plan ≡ Some v → rows ≡ alive (files_of v.rowsets)) → late_ ≡ length dead
-      → HasBook (view st.store) st.area st.end st.contents st.segments (change_end b (Some p)) → HasStore w area end nxt (change_end b (Some p)) → Steps view st b seq (call.End p.place) (reply.Compacted before after rows late_)
-  ended_step view st before after rows late_ open_ same is_before is_after is_rows is_late has stored =
+      → HasBook (view st.store) st.area st.end st.contents st.segments (change_end b (Some p)) → HasStore w area' end' nxt (change_end b (Some p)) → Steps view st b seq (call.End p.place) (reply.Compacted before after rows late_)
+  ended_step view st area' end' before after rows late_ open_ same is_before is_after is_rows is_late has stored =
       let before_is : before ≡ b.rowsets = is_before ∙ sym (length-map c.current (λ (files : ListedRowset). map part_of files)) ∙ book.images.holds.holds.rowsets in
       let after_is : after ≡ rowsets_after b p = is_after ∙ sym (length-map current (λ (files : ListedRowset). map part_of files)) ∙ stored.holds.holds.rowsets in
       let late_is : late_ ≡ late p = is_late ∙ late_counted c b begun p made dead entries body current lawful begun_is plan_is is led book.images.stored book.images.kept book.images.holds in

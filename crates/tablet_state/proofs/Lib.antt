@@ -30,4 +30,6 @@ pub mod FloorState
 pub mod MovingFacts
 pub mod EndFacts
 pub mod Ending
+pub mod EndLiving
+pub mod EndWords
 pub mod PlanReplies

@@ -46,7 +46,7 @@ none_some x e = cc
 never : false ≡ true → ⊥
 never e = cc
 
-not_so : true ≡ false → ⊥
+pub not_so : true ≡ false → ⊥
 not_so e = cc
 
 either : (a b : Bool) → b ≡ true → (a || b) ≡ true
@@ -56,9 +56,9 @@ either false b e = e
 -- ---- how many rows files have
 
 -- a file's rows are as many as told, and no more than a segment has
-record HasRows (stored : Files) (f : NewFile) : Type 0 where
-  same : length (stored f.file) ≡ f.rows
-  few : f.rows ≤ 65536
+pub record HasRows (stored : Files) (f : NewFile) : Type 0 where
+  pub same : length (stored f.file) ≡ f.rows
+  pub few : f.rows ≤ 65536
 
 footer_there : (segs : List SegmentView) (n : ℕ) (g : SegmentView) → segment_of segs n ≡ Some g → footer_at (footers_of segs) n ≡ Some g.footer
 footer_there [] n g is = absurd (none_some g is)
@@ -91,7 +91,7 @@ each_rows : (s : Layout) (stored : Files) (segs : List SegmentView) (fs : List N
 each_rows s stored segs [] attached read hand = tt
 each_rows s stored segs (f ∷ fs) attached read hand = (rows_by s stored segs f attached read.0 hand.0, each_rows s stored segs fs attached read.1 hand.1)
 
-new_rows : (s : Layout) (now stored : Files) (first : ℕ) (files : List (List (List Value))) (made : List NewSegment) → AreSealed s files made → ((n : ℕ) → first ≤ n → now n ≡ with_files first files stored n)
+pub new_rows : (s : Layout) (now stored : Files) (first : ℕ) (files : List (List (List Value))) (made : List NewSegment) → AreSealed s files made → ((n : ℕ) → first ≤ n → now n ≡ with_files first files stored n)
     → AllByRecursion (HasRows now) (told_files first files)
 new_rows s now stored first [] made are same = tt
 new_rows s now stored first (rows ∷ files) [] are same = absurd are
@@ -103,17 +103,17 @@ new_rows s now stored first (rows ∷ files) (m ∷ made) are same = (record { s
     behind : (n : ℕ) → first + 1 ≤ n → now n ≡ with_files (first + 1) files stored n
     behind n le = same n (omega arith) ∙ ap (λ (b : Bool). cond b rows (with_files (first + 1) files stored n)) (ne_eqb n first (λ e. absurd (omega arith)))
 
-wholes : (stored : Files) (files : List NewFile) → AllByRecursion (HasRows stored) files → AllByRecursion (λ (f : ListedFile). HasRows stored (told_file f)) (map whole_file files)
+pub wholes : (stored : Files) (files : List NewFile) → AllByRecursion (HasRows stored) files → AllByRecursion (λ (f : ListedFile). HasRows stored (told_file f)) (map whole_file files)
 wholes stored [] h = tt
 wholes stored (f ∷ files) h = (h.0, wholes stored files h.1)
 
 -- ---- live rows among files
 
 -- a live row whose number has a place in a delete vector
-abbrev lives_in : List ListedFile → Place → Bool
+abbrev pub lives_in : List ListedFile → Place → Bool
 lives_in files p = nat_lt p.row 65536 && row_lives (file_numbered p.segment files) p.row
 
-live_lives : (stored : Files) (fs : List ListedFile) (p : Place) (row : List Value) → AllByRecursion (λ (f : ListedFile). HasRows stored (told_file f)) fs → live stored (parts fs) p ≡ Some row → lives_in fs p ≡ true
+pub live_lives : (stored : Files) (fs : List ListedFile) (p : Place) (row : List Value) → AllByRecursion (λ (f : ListedFile). HasRows stored (told_file f)) fs → live stored (parts fs) p ≡ Some row → lives_in fs p ≡ true
 live_lives stored [] p row has is = absurd (none_some row is)
 live_lives stored (f ∷ fs) p row has is = go (f.file == p.segment) (is_dead (part_of f) p.row) refl is (live_lives stored fs p row has.1)
   where
@@ -231,7 +231,7 @@ module _ (u : View) (area end : ℕ) (c : Contents) (segs : List SegmentView) (b
 
 -- ---- why a change isn't made ready
 
-only_memory : (e : ReadyFault) → (e ≡ fault.NotLive → ⊥) → e ≡ fault.Memory
+pub only_memory : (e : ReadyFault) → (e ≡ fault.NotLive → ⊥) → e ≡ fault.Memory
 only_memory fault.Memory h = refl
 only_memory fault.NotLive h = absurd (h refl)
 

@@ -21,8 +21,8 @@ use Rattle.journal_form.specs.declared.records.NewFile.{NewFile}
 use Rattle.journal_form.specs.declared.records.Record.TheVariants.{Compact}
 use Rattle.journal_form.specs.Versions.{Rowset as ListedRowset, changes_fit, compacted_rowsets, files_of, marked}
 use Rattle.journal_form.specs.Meaning.{file_numbers}
-use Rattle.journal_bytes.specs.Records.{record_bytes}
-use Rattle.kept_versions.specs.Changes.{AreInRange, places_of_changes}
+use Rattle.journal_bytes.specs.Records.{RecordFits, record_bytes}
+use Rattle.kept_versions.specs.Changes.{places_of_changes}
 use Rattle.kept_versions.specs.Files.{alive}
 use Rattle.tablet_state.specs.declared.ends.Ended.{Ended}
 use Rattle.tablet_state.specs.Holding.{moved_rows}
@@ -133,5 +133,5 @@ pub record IsEndTold (before : List ListedRowset) (replaced : ℕ) (files : List
   pub places : places_of_changes changed ≡ dead
   pub due : changes_fit 0 (files_of (compacted_rowsets replaced files before)) changed ≡ true
   pub current_is : current ≡ marked changed (compacted_rowsets replaced files before)
-  pub in_range : AreInRange changed
+  pub fits : RecordFits edit (Compact version replaced files changed None)
   pub spelled : body ≡ record_bytes edit (Compact version replaced files changed None)

@@ -79,6 +79,11 @@ impl<S: Store> State<S> {
         ensures not_live { IfErr result (λ e. e.1 ≡ fault.NotLive → list_all (can_die (new_rowset
             (new_files self.old.contents.next_file (map (λ m. (S.Maker.sealed_bytes m.sealed, m.footer)) change.files.items))))
             change.dead.items ≡ false) }
+
+        // Of a change that ends the compaction of a book, only memory is ever wanted.
+        ensures live { (begun : Rowsets) (p : Plan) → IsEndOf self.old.contents.schema (index_of self.old.contents) begun p
+            self.old.contents.next_file (map (λ m. (S.Maker.sealed_bytes m.sealed, m.footer)) change.files.items) change.dead.items change.index.items
+            → IfErr result (λ e. e.1 ≡ fault.Memory) }
         ensures rests { Rests S.view self.old self.new }
         ensures faults { faults_of S.view self.new ≡ faults_of S.view self.old }
         ensures has { (b : Book) → Has S.view self.old b → Has S.view self.new b }
