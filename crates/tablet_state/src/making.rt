@@ -86,7 +86,7 @@ impl<S: Store> State<S> {
     }
 
     // Takes memory for so many files, keys and bytes, and for one version more.
-    fn take_room(&mut self, files: usize, keys: usize, bytes: u64) -> Result<(), Memory>
+    pub(crate) fn take_room(&mut self, files: usize, keys: usize, bytes: u64) -> Result<(), Memory>
         requires { files < 2 ^ 32 }
         ensures room { OnOk result (HasRoom files keys bytes (S.view self.new.store) self.new.room) }
         ensures rests { Rests S.view self.old self.new }

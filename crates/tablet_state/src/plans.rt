@@ -18,7 +18,7 @@ use std::alloc::Global;
 impl<S: Store> State<S> {
     /// The compaction under way. It takes no memory.
     pub fn plan(&self) -> Option<PlanMark>
-        ensures { result ≡ option_map mark_of self.now.contents.plan }
+        ensures mark { result ≡ option_map mark_of self.now.contents.plan }
 
         // An open state's is that of the book that it has.
         ensures book { (b : Book) → Has S.view self.now b → self.now.closed ≡ None
@@ -32,7 +32,7 @@ impl<S: Store> State<S> {
 
     /// Whether a file is one of those with which the compaction under way began. It takes no memory.
     pub fn in_plan(&self, number: u64) -> bool
-        ensures { result ≡ is_listed (numbers_planned self.now.contents.plan) number }
+        ensures listed { result ≡ is_listed (numbers_planned self.now.contents.plan) number }
         ensures names { IfSome (begun_of self.now.contents) (λ begun. result ≡ names (parts_of begun) number) }
     {
         match &self.plan {
