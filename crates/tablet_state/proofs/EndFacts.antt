@@ -161,6 +161,7 @@ module _ (c : Contents) (made : List NewSegment) (dead : List Place) (entries : 
   is_end_led = record {
     changed = p.changed;
     places = p.places;
+    new = p.new;
     leads = record { spelled = p.spelled; fits = p.fits; steps = λ kept. (kept_above (versions_of c).older kept entry, steps_at kept) };
     current_is = p.current_is;
   }

@@ -19,18 +19,18 @@ use Rattle.rowsets.specs.Indexing.{CodeMove, code_moves, kept_moves, put_all}
 use Rattle.journal_form.specs.declared.records.DeadRows.{DeadRows}
 use Rattle.journal_form.specs.declared.records.NewFile.{NewFile}
 use Rattle.journal_form.specs.declared.records.Record.TheVariants.{Compact}
-use Rattle.journal_form.specs.Versions.{Rowset as ListedRowset, changes_fit, compacted_rowsets, files_of, marked}
+use Rattle.journal_form.specs.Versions.{Rowset as ListedRowset, changes_fit, compacted_rowsets, files_of, marked, new_rowset}
 use Rattle.journal_form.specs.Meaning.{file_numbers}
 use Rattle.journal_bytes.specs.Records.{RecordFits, record_bytes}
 use Rattle.kept_versions.specs.Changes.{places_of_changes}
-use Rattle.kept_versions.specs.Files.{alive}
+use Rattle.kept_versions.specs.Files.{alive, can_die}
 use Rattle.tablet_state.specs.declared.ends.Ended.{Ended}
 use Rattle.tablet_state.specs.Holding.{moved_rows}
 use Rattle.tablet_state.specs.Contents.{Contents, UnderWay, current_number, plan_place, planned_rowsets, worn_of}
 use Rattle.tablet_state.specs.Readies.{AreSealed, IsMadeOf, Leads, NewSegment, new_files}
 use Rattle.tablet_state.specs.State.{HasFewFiles, Room, Shown}
 use Rattle.tablet_state.specs.Floors.{is_listed, worn_answer}
-use Rattle.std.specs.List.{AllByRecursion}
+use Rattle.std.specs.List.{AllByRecursion, list_all}
 
 -- ---- how it is held
 
@@ -96,16 +96,18 @@ ended_contents count current entries c =
     record c { edit = c.edit + 1; current = current; next_file = c.next_file + count; codes = put_all entries c.codes; plan = None }
 
 -- The current version after it: the new files are its first rowset in place of those with which the compaction began,
--- and these rows are dead.
+-- and these of their rows are dead.
 pub record IsCompacted (c : Contents) (files : List NewFile) (dead : List Place) (current : List ListedRowset) : Type 0 where
   pub changed : List DeadRows
   pub places : places_of_changes changed ≡ dead
+  pub new : list_all (can_die (new_rowset files)) dead ≡ true
   pub current_is : current ≡ marked changed (compacted_rowsets (planned_rowsets c.plan) files c.current)
 
 -- What is ready leads on to it.
 pub record IsEndLed (c : Contents) (files : List NewFile) (dead : List Place) (body : List ℕ) (next : Contents) : Type 0 where
   pub changed : List DeadRows
   pub places : places_of_changes changed ≡ dead
+  pub new : list_all (can_die (new_rowset files)) dead ≡ true
   pub leads : Leads c next body (Compact (current_number c) (planned_rowsets c.plan) files changed None)
   pub current_is : next.current ≡ marked changed (compacted_rowsets (planned_rowsets c.plan) files c.current)
 
@@ -126,11 +128,13 @@ abbrev pub ended : Result Ended Reply → Reply
 ended (Ok e) = reply.Compacted e.before e.after e.rows e.late
 ended (Err r) = r
 
--- The version after an end and the body of its record, made of the version before.
+-- The version after an end and the body of its record, made of the version before: the rows that die are rows of the
+-- new files.
 pub record IsEndTold (before : List ListedRowset) (replaced : ℕ) (files : List NewFile) (dead : List Place)
     (version edit : ℕ) (current : List ListedRowset) (body : List ℕ) : Type 0 where
   pub changed : List DeadRows
   pub places : places_of_changes changed ≡ dead
+  pub new : list_all (can_die (new_rowset files)) dead ≡ true
   pub due : changes_fit 0 (files_of (compacted_rowsets replaced files before)) changed ≡ true
   pub current_is : current ≡ marked changed (compacted_rowsets replaced files before)
   pub fits : RecordFits edit (Compact version replaced files changed None)

@@ -177,7 +177,7 @@ returns-in-Ok-clause-compacted g c =
     let w : View = view c.commit-committed.new.store in
     let segs' : List SegmentView = segments_of read c.commit-committed.new.segments.items in
     subst (λ (x : Shown g.row.S.Denot). IsCompacted x.contents (new_files x.contents.next_file made) dead current) c.self.view_is
-    (record { changed = r.led.changed; places = r.led.places; current_is = r.led.current_is })
+    (record { changed = r.led.changed; places = r.led.places; new = r.led.new; current_is = r.led.current_is })
 
 pub invariant_of-self-in-Err : goal.invariant_of-self-in-Err
 invariant_of-self-in-Err g c =
