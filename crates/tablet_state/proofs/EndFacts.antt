@@ -23,7 +23,7 @@ use Rattle.journal_form.specs.declared.records.DeadRows.{DeadRows}
 use Rattle.journal_form.specs.declared.records.ListedFile.{ListedFile}
 use Rattle.journal_form.specs.declared.records.NewFile.{NewFile}
 use Rattle.journal_form.specs.declared.records.Record.TheVariants.{Compact}
-use Rattle.journal_form.specs.Versions.{Rowset as ListedRowset, Versions, above, all_below, bound, changes_fit, compact_fits, compacted, compacted_rowsets, consecutive, current_number as number_in, file_numbered, files_fit, files_of, marked, new_rowset, numbers_of, rows_fit}
+use Rattle.journal_form.specs.Versions.{Rowset as ListedRowset, Versions, above, all_below, bound, changes_fit, compact_fits, compacted, compacted_rowsets, consecutive, current_number as number_in, file_numbered, files_fit, files_of, marked, new_rowset, numbers_of, published_rowsets, rows_fit}
 use Rattle.journal_form.specs.Meaning.{Entry, Standing, kept_above, most_file, step, step_at}
 use Rattle.journal_form.proofs.Applied.{compact_closes}
 use Rattle.journal_bytes.specs.Records.{RecordFits}
@@ -94,6 +94,10 @@ pub changes_compacted : (replaced : ℕ) (files : List NewFile) (before : List L
     → changes_fit 0 (files_of (compacted_rowsets replaced files before)) changed ≡ true
 changes_compacted replaced files before changed h =
     subst (λ (fs : List ListedFile). changes_fit 0 fs changed ≡ true) (sym (files_join (new_rowset files) (drop replaced before))) (changes_first 0 (files_of (new_rowset files)) (files_of (drop replaced before)) changed h)
+
+-- over a version without a rowset
+pub over_none : (P : List ListedRowset → Type 0) (files : List NewFile) (none : List ListedRowset) → none ≡ [] → P (published_rowsets files none) → P (new_rowset files)
+over_none P files none is h = subst (λ (rs : List ListedRowset). P (published_rowsets files rs)) is h
 
 -- ---- the record
 

@@ -7,7 +7,7 @@ ghost use Rattle.pk_model.specs.declared.calls.Reply.TheVariants as reply;
 ghost use Rattle.rowsets.specs.Live.{Version as Rowsets};
 ghost use Rattle.journal_form.specs.Versions.{files_of, new_rowset};
 ghost use Rattle.kept_versions.specs.Files.{PlacesRise, alive, can_die};
-ghost use Rattle.tablet_state.specs.Contents.{begun_of, index_of, worn_of};
+ghost use Rattle.tablet_state.specs.Contents.{begun_of, index_of, planned_rowsets, worn_of};
 ghost use Rattle.tablet_state.specs.Plans.{IsCompacted, IsEndMade, IsEndOf, end_refusal, ended, ended_contents};
 ghost use Rattle.tablet_state.specs.Readies.{IsMadeOf, new_files};
 ghost use Rattle.tablet_state.specs.State.{Has, Rests, StandsThroughout, Steps, faults_of, reads_of};
@@ -90,10 +90,7 @@ impl<S: Store> State<S> {
     {
         let first = self.next_file;
         let version = self.version();
-        let replaced = match &self.plan {
-            Some(plan) => plan.rowsets().rowsets().len(),
-            None => 0,
-        };
+        let replaced = self.planned_rowsets();
         let told = match told_files(alloc, first, &change.files) {
             Ok(told) => told,
             Err(_) => return Err((change, ReadyFault::Memory)),
@@ -215,6 +212,16 @@ impl<S: Store> State<S> {
                 self.closed = Some(seq);
                 Err(Reply::StoreFault(self.faults()))
             }
+        }
+    }
+
+    // How many rowsets the compaction under way began with, 0 where there is none.
+    fn planned_rowsets(&self) -> usize
+        ensures { result ≡ planned_rowsets self.now.contents.plan }
+    {
+        match &self.plan {
+            Some(plan) => plan.rowsets().rowsets().len(),
+            None => 0,
         }
     }
 
