@@ -32,4 +32,5 @@ pub mod EndFacts
 pub mod Ending
 pub mod EndLiving
 pub mod EndWords
+pub mod PlanFacts
 pub mod PlanReplies
