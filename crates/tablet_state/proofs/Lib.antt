@@ -34,3 +34,4 @@ pub mod EndLiving
 pub mod EndWords
 pub mod PlanFacts
 pub mod PlanReplies
+pub mod PlanRefusals
