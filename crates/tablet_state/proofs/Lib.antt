@@ -33,5 +33,6 @@ pub mod Ending
 pub mod EndLiving
 pub mod EndWords
 pub mod PlanFacts
+pub mod Beginning
 pub mod PlanReplies
 pub mod PlanRefusals
