@@ -29,7 +29,7 @@ pub mod FloorReplies
 pub mod FloorState
 pub mod MovingFacts
 pub mod EndFacts
-pub mod Ending
+pub mod EndBook
 pub mod EndLiving
 pub mod EndWords
 pub mod PlanFacts

@@ -15,7 +15,7 @@ use Rattle.tablet_state.specs.Readies.{NewSegment, new_files}
 use Rattle.tablet_state.specs.Seen.{segments_of}
 use Rattle.tablet_state.proofs.Applying.{failed, reads_on, unfailed}
 use Rattle.tablet_state.proofs.EndWords.{EndMade, EndMoments, EndTurn, ended_held}
-use Rattle.tablet_state.proofs.Ending.{book_end, end_fault_step, ended_step, only_end, open_end, own_end}
+use Rattle.tablet_state.proofs.EndBook.{book_end, end_fault_step, ended_step, only_end, open_end, own_end}
 use Rattle.tablet_state.proofs.Owning.{own_joined}
 use Rattle.tablet_state.proofs.SegmentFacts.{Below}
 use Rattle.tablet_state.proofs.state.State.apply_end.Goals as goal
