@@ -1,42 +1,39 @@
 -- The parts of a kept version can be a snapshot, and are one of the rows of the book's version.
-use Rattle.std.proofs.Common.{◌≡◌, refl, ap, sym, subst, ◌∙◌, ℕ, zero, suc, ◌+◌, ◌*◌, ◌-◌, ◌^◌, ◌<◌, ◌≤◌, List, [], ◌∷◌, ◌++◌, length, length-append, map, slice_get, sum, Option, Some, None, Bool, true, false, ◌&&◌, ◌==◌, nat_lt, nat_le, if◌then◌else◌, is_some, IfSome, IsSome, IsTrue, arith}
+use Rattle.std.proofs.Common.{◌≡◌, refl, ap, sym, subst, ◌∙◌, ℕ, zero, suc, ◌+◌, ◌*◌, ◌-◌, ◌^◌, ◌<◌, ◌≤◌, List, [], ◌∷◌, ◌++◌, length, length-append, map, slice_get, Option, Some, None, Bool, true, false, ◌&&◌, ◌==◌, nat_lt, nat_le, if◌then◌else◌, is_some, IfSome, IsSome, IsTrue, arith}
 use Rattle.std.specs.List.{AllByRecursion, list_all}
 use Rattle.std.specs.FinMap.{len}
 use Rattle.std.proofs.lemmas.Bool.{and_parts, leb-true}
-use Rattle.std.proofs.lemmas.List.{map-append, length-map}
 use Rattle.std.proofs.lemmas.List.Sums.{sum_by-cons}
 use Rattle.column_page.specs.declared.footers.Footer.{Footer}
 use Rattle.column_page.proofs.FooterParts.{footer_parts}
 use Rattle.dev_traits.specs.Image.{Image}
 use Rattle.dev_traits.specs.View.{View}
 use Rattle.pk_values.specs.Schemas.{Layout}
-use Rattle.pk_values.specs.declared.cells.Value.{Value}
 use Rattle.pk_model.specs.declared.books.Book.{Book}
-use Rattle.pk_model.specs.Books.{rows_at, version}
+use Rattle.pk_model.specs.Books.{rows_at}
 use Rattle.pk_model.specs.Tables.{Rows}
-use Rattle.rowsets.specs.Live.{Part, Version as Rowsets, Files, FilesOnce, StandsFor, live, parts_of}
+use Rattle.rowsets.specs.Live.{Part, Version as Rowsets, Files, parts_of}
 use Rattle.rowsets.specs.Marks.{Rises}
-use Rattle.rowsets.specs.Scans.{AreRowsOf, Piece, listed, live_rows, piece_of}
-use Rattle.rowsets.specs.Books.{Held, HoldsBook, held_at}
+use Rattle.rowsets.specs.Scans.{AreRowsOf, listed, live_rows, piece_of}
+use Rattle.rowsets.specs.Books.{Held, HoldsBook}
 use Rattle.rowsets.proofs.BookFacts.{kept_are_held}
 use Rattle.rowsets.proofs.ScanFacts.{listed_are_counted, piece_is_counted, version_is_listed}
-use Rattle.segment_form.specs.Segments.{AreSegmentRows}
 use Rattle.journal_form.specs.declared.records.NewFile.{NewFile}
 use Rattle.journal_form.specs.declared.records.ListedFile.{ListedFile}
-use Rattle.journal_form.specs.Versions.{Rowset as ListedRowset, Version, all_below, bound, files_of, rise_from}
-use Rattle.journal_form.specs.Meaning.{Standing, file_fits}
+use Rattle.journal_form.specs.Versions.{Rowset as ListedRowset, all_below, bound, files_of, rise_from}
+use Rattle.journal_form.specs.Meaning.{file_fits}
 use Rattle.journal_form.proofs.GoodFiles.{AreGood}
 use Rattle.journal_form.proofs.Numbers.{below_head, below_tail}
-use Rattle.journal_form.proofs.Applied.{EachGood, Good}
+use Rattle.journal_form.proofs.Applied.{EachGood}
 use Rattle.kept_versions.specs.Files.{alive}
 use Rattle.snapshot_scan.specs.Parts.{IsPart, IsPieceOf, PartView}
-use Rattle.snapshot_scan.specs.Snapshots.{AreParts, ArePieces, IsSnapshotOf, SnapshotView}
-use Rattle.tablet_state.specs.Contents.{Contents, all_rowsets, begun_of, current_number, index_of, standing_of, version_of, versions_of}
-use Rattle.tablet_state.specs.Holding.{Holds, held}
+use Rattle.snapshot_scan.specs.Snapshots.{AreParts, ArePieces, IsSnapshotOf}
+use Rattle.tablet_state.specs.Contents.{Contents, all_rowsets, begun_of, index_of, standing_of, version_of, versions_of}
+use Rattle.tablet_state.specs.Holding.{held}
 use Rattle.tablet_state.specs.Snapshots.{ArePartsOf, IsKept, IsPartOf, rowsets_at}
-use Rattle.tablet_state.specs.Stands.{AreSegments, IsSegment, all_versions, files_in, part_of, rowsets_of, told_file}
-use Rattle.tablet_state.specs.State.{AreReadAs, Has, HasBook, HasFewFiles, HasOwn, HasStore, IsAttached, IsInHand, IsReadAs, SegmentView, Shown, footer_at, footers_of, named_files, segment_of}
-use Rattle.tablet_state.proofs.FileFacts.{all-append, all-first, all-last, all-map}
+use Rattle.tablet_state.specs.Stands.{IsSegment, files_in, part_of, rowsets_of, told_file}
+use Rattle.tablet_state.specs.State.{Has, HasBook, HasFewFiles, HasOwn, IsAttached, IsInHand, IsReadAs, SegmentView, Shown, footer_at, footers_of, segment_of}
+use Rattle.tablet_state.proofs.FileFacts.{all-first, all-last}
 use Rattle.tablet_state.proofs.HoldFacts.{good_of}
 use Rattle.tablet_state.proofs.Lending.{found_there, none_some, parts_long, some_one}
 use Rattle.tablet_state.proofs.VersionFacts.{parts, parts_are}

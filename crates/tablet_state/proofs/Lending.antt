@@ -1,10 +1,9 @@
 -- Segments whose readers may have been read, and the parts of a version that are made of them.
-use Rattle.std.proofs.Common.{◌≡◌, refl, ap, sym, subst, ◌∙◌, ◌⊎◌, inl, inr, ℕ, zero, suc, ◌+◌, ◌-◌, ◌^◌, ◌<◌, ◌≤◌, min, List, [], ◌∷◌, ◌++◌, length, map, take, slice_get, slice_set, Option, Some, None, Bool, true, false, ◌==◌, if◌then◌else◌, is_some, IsSome, arith, append-nil, append_assoc}
+use Rattle.std.proofs.Common.{◌≡◌, refl, ap, sym, subst, ◌∙◌, ◌⊎◌, inl, inr, ℕ, zero, suc, ◌+◌, ◌<◌, ◌≤◌, min, List, [], ◌∷◌, ◌++◌, length, map, take, slice_get, slice_set, Option, Some, None, Bool, true, false, ◌==◌, if◌then◌else◌, is_some, IsSome, arith, append-nil, append_assoc}
 use Rattle.std.specs.List.{AllByRecursion}
 use Rattle.std.specs.Option.{option_map}
-use Rattle.std.proofs.lemmas.Bool.{eqb-true, eqb-false, eq-eqb, ne_eqb}
-use Rattle.column_page.specs.declared.footers.Footer.{Footer}
-use Rattle.dev_traits.specs.Reader.{IsNew, ReaderView, SameFile}
+use Rattle.std.proofs.lemmas.Bool.{eqb-true}
+use Rattle.dev_traits.specs.Reader.{IsNew, SameFile}
 use Rattle.pk_values.specs.Schemas.{Layout}
 use Rattle.rowsets.specs.Live.{Files}
 use Rattle.rowsets.specs.Marks.{Rises}
@@ -15,7 +14,7 @@ use Rattle.snapshot_scan.specs.Parts.{PartView}
 use Rattle.snapshot_scan.proofs.StepFacts.{same_place}
 use Rattle.snapshot_scan.specs.Snapshots.{fault_count, read_count}
 use Rattle.tablet_state.specs.Contents.{Contents, planned_files}
-use Rattle.tablet_state.specs.State.{AreReadAs, HasOwn, IsAttached, IsInHand, IsOpen, IsReadAs, Keeps, SegmentView, Shown, footer_at, footers_of, named_files, reader_faults, segment_of}
+use Rattle.tablet_state.specs.State.{AreReadAs, HasOwn, IsAttached, IsInHand, Keeps, SegmentView, Shown, footers_of, named_files, reader_faults, segment_of}
 use Rattle.dev_traits.specs.View.{View}
 use Rattle.tablet_state.proofs.FileFacts.{all-first, all-last}
 use Rattle.tablet_state.specs.Snapshots.{ArePartsOf, IsPartOf, Lends, SameButReads, unread}

@@ -1,11 +1,11 @@
 -- Places of earlier versions that are still live there, and copies of segments.
-use Rattle.std.proofs.Common.{◌≡◌, refl, ap, sym, subst, ◌∙◌, ℕ, zero, suc, ◌+◌, ◌-◌, ◌^◌, ◌<◌, ◌≤◌, min, List, [], ◌∷◌, ◌++◌, length, length-append, map, slice_get, slice_set, Option, Some, None, Bool, true, false, ◌&&◌, ◌==◌, nat_lt, nat_le, not, cond, if◌then◌else◌, IfSome, IsSome, arith}
+use Rattle.std.proofs.Common.{◌≡◌, refl, ap, sym, subst, ◌∙◌, ℕ, zero, suc, ◌+◌, ◌-◌, ◌^◌, ◌<◌, ◌≤◌, min, List, [], ◌∷◌, ◌++◌, length, length-append, map, slice_get, slice_set, Option, Some, None, Bool, true, false, ◌==◌, nat_lt, nat_le, not, cond, if◌then◌else◌, IfSome, IsSome, arith}
 use Rattle.std.specs.List.{AllByRecursion, list_any}
 use Rattle.std.specs.FinMap.{get}
-use Rattle.std.proofs.lemmas.Bool.{and_parts, and_from, ltb-true, ltb-false, lt-ltb, leb-true, leb-false, eqb-true, eq-eqb, ne_eqb}
+use Rattle.std.proofs.lemmas.Bool.{and_parts, and_from, ltb-true, lt-ltb, leb-true, leb-false, eqb-true, eq-eqb, ne_eqb}
 use Rattle.std.proofs.lemmas.Option.{slice_get_within}
 use Rattle.column_page.specs.declared.footers.Footer.{Footer}
-use Rattle.pk_values.specs.Schemas.{Layout, key_of}
+use Rattle.pk_values.specs.Schemas.{Layout}
 use Rattle.pk_values.specs.declared.cells.Value.{Value}
 use Rattle.pk_model.specs.declared.books.Book.{Book}
 use Rattle.pk_model.specs.Books.{rows_at}
@@ -16,7 +16,7 @@ use Rattle.dev_traits.specs.View.{View}
 use Rattle.segment_read.specs.Footers.{HasFooter}
 use Rattle.segment_read.specs.Reads.{KnowsFooter}
 use Rattle.index_level0.specs.declared.place.Place.{Place}
-use Rattle.rowsets.specs.Live.{Part, Version as Rowsets, Files, HasKey, StandsFor, is_dead, live, parts_of}
+use Rattle.rowsets.specs.Live.{Part, Files, is_dead, live, parts_of}
 use Rattle.rowsets.specs.Marks.{Rises}
 use Rattle.rowsets.specs.Books.{Held, held_at}
 use Rattle.rowsets.proofs.BookFacts.{kept_are_held}
@@ -27,7 +27,7 @@ use Rattle.journal_form.specs.Meaning.{Entry}
 use Rattle.kept_versions.specs.Files.{is_live, row_lives}
 use Rattle.tablet_state.specs.Contents.{Contents, all_rowsets, begun_of, current_number, index_of, standing_of, version_of, versions_of}
 use Rattle.tablet_state.specs.Holding.{Holds, held}
-use Rattle.tablet_state.specs.Moving.{HasAt, HasRowOf, IsCopyOf, KeysAreTold, PlacesAreLive, TellsKey, keeps_live, lives_in, read_more, read_once, total_reads}
+use Rattle.tablet_state.specs.Moving.{HasAt, HasRowOf, IsCopyOf, KeysAreTold, PlacesAreLive, keeps_live, lives_in, read_more, read_once, total_reads}
 use Rattle.tablet_state.specs.Snapshots.{IsKept, rowsets_at}
 use Rattle.tablet_state.specs.Stands.{IsSegment, part_of, rowsets_of, told_file}
 use Rattle.tablet_state.specs.State.{Has, HasBook, HasOwn, IsAttached, IsReadAs, SegmentView, Shown, segment_of}

@@ -1,4 +1,4 @@
-use Rattle.std.proofs.Common.{◌≡◌, ◌∙◌, ◌<◌, ◌≤◌, ◌+◌, List, Some, ap, arith, refl, sym, subst, length, map, slice_get, slice_set}
+use Rattle.std.proofs.Common.{◌≡◌, ◌∙◌, ◌≤◌, ◌+◌, List, Some, arith, refl, sym, subst, slice_get}
 use Rattle.std.proofs.lemmas.List.{length-map}
 use Rattle.segment_read.specs.declared.segments.Segment.{Segment}
 use Rattle.snapshot_scan.proofs.ListFacts.{map_set}
@@ -7,6 +7,7 @@ use Rattle.tablet_state.specs.Seen.{segment_seen, segments_of}
 use Rattle.tablet_state.specs.Snapshots.{SameButReads}
 use Rattle.tablet_state.specs.State.{SegmentView, segment_of}
 use Rattle.tablet_state.proofs.Counting.{mapped_at}
+use Rattle.tablet_state.proofs.FloorReplies.{on_err}
 use Rattle.tablet_state.proofs.Lending.{found_there, lent_set, place_within, unread_same}
 use Rattle.tablet_state.proofs.MovingFacts.{copied, read_set, seen_read, seen_same, set_same, total_set}
 use Rattle.tablet_state.proofs.copies.copy_of.Goals as goal
@@ -39,9 +40,10 @@ returns-in_err-copy-clause-uncounted g c =
     let within = place_within segs c.args.file place is c.requires.there in
     let long = length-map items (segment_seen view) in
     let at : slice_get segs place ≡ Some (segment_seen view x) = mapped_at (segment_seen view) items items place x refl (omega arith) c.index_mut.ensures.value in
-    subst (λ (gs : List SegmentView). gs ≡ segs) (sym (map_set (segment_seen view) items place c.copy.new.self))
+    on_err c.from_residual.result
+    (subst (λ (gs : List SegmentView). gs ≡ segs) (sym (map_set (segment_seen view) items place c.copy.new.self))
     (set_same segs place (segment_seen view x) (segment_seen view c.copy.new.self) at
-    (seen_same (segment_seen view x) (segment_seen view c.copy.new.self) c.copy.ensures.kept_number c.copy.ensures.kept_footer c.copy.ensures.same c.copy.ensures.faults c.in_err-copy.ensures.uncounted))
+    (seen_same (segment_seen view x) (segment_seen view c.copy.new.self) c.copy.ensures.kept_number c.copy.ensures.kept_footer c.copy.ensures.same c.copy.ensures.faults c.in_err-copy.ensures.uncounted)))
 
 pub returns-in_err-copy-clause-reads : goal.returns-in_err-copy-clause-reads
 returns-in_err-copy-clause-reads g c =

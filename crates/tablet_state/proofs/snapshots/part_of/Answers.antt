@@ -1,4 +1,4 @@
-use Rattle.std.proofs.Common.{◌≡◌, ◌∙◌, ◌<◌, List, Some, ap, arith, refl, sym, subst, length, map, slice_get}
+use Rattle.std.proofs.Common.{◌≡◌, ◌∙◌, List, Some, arith, refl, sym, subst, slice_get}
 use Rattle.std.proofs.lemmas.List.{length-map}
 use Rattle.segment_read.specs.declared.segments.Segment.{Segment}
 use Rattle.snapshot_scan.specs.Parts.{seen}

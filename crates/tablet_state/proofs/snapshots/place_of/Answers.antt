@@ -1,4 +1,4 @@
-use Rattle.std.proofs.Common.{◌∙◌, ◌+◌, ◌-◌, ◌/◌, ap, arith, refl, sym, length}
+use Rattle.std.proofs.Common.{◌+◌, ◌-◌, ◌/◌, ap, arith, refl, sym, length}
 use Rattle.std.proofs.lemmas.List.{length-map}
 use Rattle.segment_read.specs.declared.segments.Segment.{Segment}
 use Rattle.tablet_state.specs.Seen.{segment_seen, segments_of}

@@ -1,8 +1,6 @@
-use Rattle.std.proofs.Common.{◌≡◌, ◌∙◌, ◌^◌, ◌<◌, ◌-◌, min, ap, subst, arith}
+use Rattle.std.proofs.Common.{◌≡◌, ◌^◌, ◌-◌, min, subst, arith}
 use Rattle.journal_form.specs.Versions.{files_of}
 use Rattle.kept_versions.specs.Files.{alive}
-use Rattle.tablet_state.specs.Contents.{contents_in}
-use Rattle.tablet_state.specs.Seen.{segments_of}
 use Rattle.tablet_state.specs.State.{HasOwn, Shown}
 use Rattle.tablet_state.proofs.KeptFacts.{alive_fits, rows_size}
 use Rattle.tablet_state.proofs.state.State.rows.Goals as goal
