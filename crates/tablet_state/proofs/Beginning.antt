@@ -1,5 +1,5 @@
 -- A state that began a compaction, or gave it up, keeps what it has.
-use Rattle.std.proofs.Common.{◌≡◌, ap, sym, subst, ◌∙◌, ℕ, ◌≤◌, List, map, length, Option, Some, None, arith}
+use Rattle.std.proofs.Common.{◌≡◌, ap, ◌∙◌, ℕ, List, map, Option, arith}
 use Rattle.dev_traits.specs.View.{View}
 use Rattle.journal_form.specs.Versions.{Rowset as ListedRowset}
 use Rattle.tablet_state.specs.Contents.{Contents, UnderWay, version_of}

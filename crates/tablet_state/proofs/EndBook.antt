@@ -1,6 +1,5 @@
 -- A compaction's end by its calls.
-use Rattle.std.proofs.Common.{◌≡◌, inl, inr, refl, ap, sym, subst, ◌∙◌, ℕ, ◌+◌, ◌<◌, ◌≤◌, ◌^◌, List, [], ◌∷◌, ◌++◌, map, length, Option, Some, None, Bool, true, false, if◌then◌else◌, length-append, arith}
-use Rattle.std.specs.List.{AllByRecursion}
+use Rattle.std.proofs.Common.{◌≡◌, inl, inr, refl, ap, sym, subst, ◌∙◌, ℕ, ◌+◌, ◌<◌, ◌^◌, List, [], ◌∷◌, ◌++◌, map, length, Option, Some, None, Bool, if◌then◌else◌, arith}
 use Rattle.std.specs.Option.{option_map}
 use Rattle.std.specs.FinMap.{len}
 use Rattle.std.proofs.lemmas.Bool.{eq-eqb}
@@ -14,7 +13,7 @@ use Rattle.pk_model.specs.declared.books.Plan.{Plan}
 use Rattle.pk_model.specs.declared.calls.Call.TheVariants as call
 use Rattle.pk_model.specs.declared.calls.Reply.{Reply}
 use Rattle.pk_model.specs.declared.calls.Reply.TheVariants as reply
-use Rattle.pk_model.specs.Books.{GivesWay, MayReply, answer, answer_end, change, change_end, late, plan_at, rowsets_after}
+use Rattle.pk_model.specs.Books.{GivesWay, answer, answer_end, change, change_end, late, plan_at, rowsets_after}
 use Rattle.index_level0.specs.declared.place.Place.{Place}
 use Rattle.rowsets.specs.Live.{Version as Rowsets}
 use Rattle.rowsets.specs.Indexing.{CodeMove}
@@ -22,11 +21,10 @@ use Rattle.journal_form.specs.declared.records.Record.TheVariants.{Compact}
 use Rattle.journal_form.specs.Versions.{Rowset as ListedRowset, files_of}
 use Rattle.kept_versions.specs.Files.{alive}
 use Rattle.tablet_state.specs.declared.marks.PlanMark.{PlanMark}
-use Rattle.tablet_state.specs.declared.ends.Ended.{Ended}
 use Rattle.tablet_state.specs.Turns.{StandsEither}
-use Rattle.tablet_state.specs.Stands.{part_of, rowsets_of}
+use Rattle.tablet_state.specs.Stands.{part_of}
 use Rattle.tablet_state.specs.Adopting.{AllJoined, Commits, HasFiles, TellsLog}
-use Rattle.tablet_state.specs.Contents.{Contents, UnderWay, begun_of, current_number, index_of, mark_of, planned_rowsets, standing_of, version_of}
+use Rattle.tablet_state.specs.Contents.{Contents, UnderWay, begun_of, current_number, index_of, mark_of, planned_rowsets, standing_of}
 use Rattle.tablet_state.specs.State.{Has, HasBook, HasFewFiles, HasOwn, HasStore, IsAttached, IsFree, IsInHand, IsOpen, Room, SegmentView, Shown, Steps, book_mark, footers_of, named_files}
 use Rattle.tablet_state.specs.Plans.{IsEndLed, IsEndMade, IsEndOf, ended_contents}
 use Rattle.tablet_state.specs.Readies.{IsDeed, NewSegment, bytes_of, new_files}

@@ -1,12 +1,10 @@
 -- The record of a compaction's end leads on, and is a deed of the book.
-use Rattle.std.proofs.Common.{◌≡◌, refl, ap, sym, subst, ◌∙◌, append_assoc, ℕ, ◌+◌, ◌-◌, ◌<◌, ◌≤◌, ◌^◌, max, List, [], ◌∷◌, ◌++◌, map, drop, length, Option, Some, None, Bool, true, false, ◌&&◌, ◌||◌, ◌==◌, nat_lt, nat_le, not, is_some, if◌then◌else◌, arith}
-use Rattle.std.specs.List.{AllByRecursion, find}
+use Rattle.std.proofs.Common.{◌≡◌, refl, ap, sym, subst, ◌∙◌, append_assoc, ℕ, ◌+◌, ◌-◌, ◌<◌, ◌≤◌, ◌^◌, List, [], ◌∷◌, ◌++◌, map, drop, length, Option, Some, None, Bool, true, false, ◌&&◌, ◌==◌, nat_lt, nat_le, not, is_some, if◌then◌else◌, arith}
 use Rattle.std.specs.Option.{option_map}
 use Rattle.std.specs.FinMap.{get, len}
-use Rattle.std.proofs.lemmas.Bool.{and_from, and_parts, eq-eqb, eqb-true, le-leb, lt-ltb}
+use Rattle.std.proofs.lemmas.Bool.{and_from, and_parts, eqb-true, le-leb, lt-ltb}
 use Rattle.std.proofs.lemmas.List.{length-map}
-use Rattle.pk_values.specs.Schemas.{Layout, fits_key, schema_fault}
-use Rattle.pk_values.specs.declared.cells.Value.{Value}
+use Rattle.pk_values.specs.Schemas.{fits_key, schema_fault}
 use Rattle.key_code.specs.KeyCode.{key_code}
 use Rattle.pk_model.specs.declared.books.Book.{Book}
 use Rattle.pk_model.specs.declared.books.Plan.{Plan}
@@ -23,17 +21,17 @@ use Rattle.journal_form.specs.declared.records.DeadRows.{DeadRows}
 use Rattle.journal_form.specs.declared.records.ListedFile.{ListedFile}
 use Rattle.journal_form.specs.declared.records.NewFile.{NewFile}
 use Rattle.journal_form.specs.declared.records.Record.TheVariants.{Compact}
-use Rattle.journal_form.specs.Versions.{Rowset as ListedRowset, Versions, above, all_below, bound, changes_fit, compact_fits, compacted, compacted_rowsets, consecutive, current_number as number_in, file_numbered, files_fit, files_of, marked, new_rowset, numbers_of, published_rowsets, rows_fit}
-use Rattle.journal_form.specs.Meaning.{Entry, Standing, kept_above, most_file, step, step_at}
+use Rattle.journal_form.specs.Versions.{Rowset as ListedRowset, Versions, above, all_below, bound, changes_fit, compact_fits, compacted, compacted_rowsets, consecutive, current_number as number_in, file_numbered, files_fit, files_of, new_rowset, numbers_of, published_rowsets, rows_fit}
+use Rattle.journal_form.specs.Meaning.{Entry, kept_above, most_file, step, step_at}
 use Rattle.journal_form.proofs.Applied.{compact_closes}
 use Rattle.journal_bytes.specs.Records.{RecordFits}
-use Rattle.kept_versions.specs.Changes.{AreInRange, places_of_changes}
+use Rattle.kept_versions.specs.Changes.{AreInRange}
 use Rattle.kept_versions.proofs.StepFacts.{numbers_advance}
 use Rattle.tablet_state.specs.Contents.{Contents, UnderWay, begun_of, current_number, index_of, planned_rowsets, standing_of, version_of, versions_of}
 use Rattle.tablet_state.specs.Stands.{part_of}
 use Rattle.tablet_state.specs.Holding.{Holds, IsMerged, moved_rows, told_files}
 use Rattle.tablet_state.specs.Plans.{IsEndLed, IsEndOf, IsEndTold, ended_contents}
-use Rattle.tablet_state.specs.Readies.{AreInFields, IsDeed, Leads, NewSegment, new_files}
+use Rattle.tablet_state.specs.Readies.{AreInFields, IsDeed, NewSegment, new_files}
 use Rattle.tablet_state.proofs.Deeds.{told_same}
 use Rattle.tablet_state.proofs.HoldFacts.{compaction_is_held}
 use Rattle.tablet_state.proofs.Readying.{as_many, numbers_rise}

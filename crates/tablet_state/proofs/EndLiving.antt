@@ -1,9 +1,8 @@
 -- That the rows which an end marks dead are rows of its files, and that it can be made ready.
-use Rattle.std.proofs.Common.{◌≡◌, ap, sym, subst, ◌∙◌, ℕ, ◌+◌, ◌<◌, ◌^◌, List, [], ◌∷◌, map, length, Option, Some, None, Bool, true, false, cond, nat_le, ⊥, arith}
+use Rattle.std.proofs.Common.{◌≡◌, refl, ap, sym, subst, ◌∙◌, ℕ, ◌+◌, ◌<◌, ◌^◌, List, [], ◌∷◌, map, length, None, Bool, true, false, cond, nat_le, arith}
 use Rattle.std.specs.List.{list_all, AllByRecursion}
 use Rattle.std.proofs.lemmas.Bool.{and_from, leb-false}
 use Rattle.pk_values.specs.Schemas.{Layout}
-use Rattle.pk_values.specs.declared.cells.Value.{Value}
 use Rattle.dev_traits.specs.View.{View}
 use Rattle.pk_model.specs.declared.books.Plan.{Plan}
 use Rattle.index_level0.specs.declared.place.Place.{Place}

@@ -9,7 +9,7 @@ use Rattle.journal_form.specs.Versions.{Rowset as ListedRowset, files_of}
 use Rattle.journal_form.specs.Meaning.{file_numbers}
 use Rattle.kept_versions.specs.Files.{alive}
 use Rattle.tablet_state.specs.declared.marks.PlanMark.{PlanMark}
-use Rattle.tablet_state.specs.Contents.{Contents, UnderWay, begun_of, mark_of}
+use Rattle.tablet_state.specs.Contents.{UnderWay, mark_of}
 use Rattle.tablet_state.specs.Floors.{is_listed, numbers_planned}
 use Rattle.tablet_state.specs.Plans.{AreNumbersOf}
 use Rattle.tablet_state.specs.Stands.{part_of}

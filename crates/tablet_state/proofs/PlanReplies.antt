@@ -1,8 +1,8 @@
 -- What a begin, a giving up and an end of a compaction answer, and which book is left.
-use Rattle.std.proofs.Common.{◌≡◌, inl, inr, refl, ap, sym, subst, ◌∙◌, ℕ, ◌+◌, ◌≤◌, ◌^◌, List, map, length, Option, Some, None, Bool, true, false, ◌==◌, if◌then◌else◌, arith}
+use Rattle.std.proofs.Common.{◌≡◌, inl, inr, refl, ap, sym, subst, ◌∙◌, ℕ, ◌≤◌, ◌^◌, List, map, length, Option, Some, None, Bool, false, ◌==◌, if◌then◌else◌}
 use Rattle.std.specs.Option.{option_map}
 use Rattle.std.specs.FinMap.{len}
-use Rattle.std.proofs.lemmas.Bool.{eq-eqb, eqb-true}
+use Rattle.std.proofs.lemmas.Bool.{eq-eqb}
 use Rattle.std.proofs.lemmas.List.{length-map}
 use Rattle.dev_traits.specs.View.{View}
 use Rattle.pk_model.specs.declared.books.Book.{Book}
@@ -11,15 +11,15 @@ use Rattle.pk_model.specs.declared.calls.Call.{Call}
 use Rattle.pk_model.specs.declared.calls.Call.TheVariants as call
 use Rattle.pk_model.specs.declared.calls.Reply.{Reply}
 use Rattle.pk_model.specs.declared.calls.Reply.TheVariants as reply
-use Rattle.pk_model.specs.Books.{GivesWay, MayReply, answer, answer_begin, answer_end, answer_give_up, change, change_begin, change_end, change_give_up, plan_at, version}
+use Rattle.pk_model.specs.Books.{GivesWay, answer, answer_begin, answer_end, answer_give_up, change, change_begin, change_end, change_give_up, plan_at, version}
 use Rattle.rowsets.proofs.BookFacts.{begin_is_held, giving_up_is_held}
 use Rattle.journal_form.specs.Versions.{Rowset as ListedRowset, files_of}
 use Rattle.kept_versions.specs.Files.{alive}
 use Rattle.tablet_state.specs.declared.marks.PlanMark.{PlanMark}
-use Rattle.tablet_state.specs.Holding.{Holds, held}
+use Rattle.tablet_state.specs.Holding.{held}
 use Rattle.tablet_state.specs.Stands.{part_of}
 use Rattle.tablet_state.specs.Turns.{IsStep}
-use Rattle.tablet_state.specs.Contents.{Contents, UnderWay, begun_of, current_number, index_of, mark_of, plan_place, standing_of, versions_of}
+use Rattle.tablet_state.specs.Contents.{Contents, UnderWay, begun_of, current_number, index_of, mark_of, plan_place, versions_of}
 use Rattle.tablet_state.specs.Plans.{begun_contents, dropped_contents}
 use Rattle.tablet_state.specs.State.{Has, HasBook, HasOwn, HasStore, Shown, Steps, book_mark}
 use Rattle.tablet_state.proofs.KeptFacts.{HonestReads, rows_size}

@@ -22,7 +22,7 @@ new_files-append first (x ∷ xs) ys =
     ap (λ (fs : List NewFile). record { file = first; rows = x.1.rows } ∷ fs)
     (new_files-append (first + 1) xs ys ∙ ap (λ (n : ℕ). new_files (first + 1) xs ++ new_files n ys) (omega arith))
 
-numbers_rise : (first : ℕ) (made : List NewSegment) → consecutive first (new_files first made) ≡ true
+pub numbers_rise : (first : ℕ) (made : List NewSegment) → consecutive first (new_files first made) ≡ true
 numbers_rise first [] = refl
 numbers_rise first (m ∷ made) = ap (λ (t : Bool). t && consecutive (first + 1) (new_files (first + 1) made)) (eq-eqb first first refl) ∙ numbers_rise (first + 1) made
 

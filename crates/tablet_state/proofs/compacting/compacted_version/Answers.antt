@@ -1,4 +1,4 @@
-use Rattle.std.proofs.Common.{◌∙◌, None, true, sym, subst, ap, List}
+use Rattle.std.proofs.Common.{◌≡◌, ◌∙◌, None, true, sym, subst, ap, List}
 use Rattle.std.specs.List.{list_all}
 use Rattle.journal_form.specs.declared.records.NewFile.{NewFile}
 use Rattle.journal_form.specs.declared.records.Record.TheVariants.{Compact}

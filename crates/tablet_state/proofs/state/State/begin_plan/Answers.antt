@@ -1,4 +1,4 @@
-use Rattle.std.proofs.Common.{◌≡◌, ◌∙◌, ℕ, List, None, Some, refl, sym, ap, subst}
+use Rattle.std.proofs.Common.{◌≡◌, ◌∙◌, List, None, Some, refl, sym, ap, subst}
 use Rattle.pk_model.specs.declared.calls.Call.TheVariants as call
 use Rattle.pk_model.specs.declared.calls.Reply.TheVariants as reply
 use Rattle.tablet_state.specs.Contents.{Contents, UnderWay, contents_in, current_number}
@@ -7,7 +7,7 @@ use Rattle.tablet_state.specs.Seen.{segments_of}
 use Rattle.tablet_state.specs.State.{Has, Keeps, SegmentView, Shown, Steps}
 use Rattle.tablet_state.proofs.Beginning.{keeps_begun, under_way}
 use Rattle.tablet_state.proofs.KeptFacts.{alive_fits}
-use Rattle.tablet_state.proofs.PlanReplies.{begin_memory, begun_step, book_begun}
+use Rattle.tablet_state.proofs.PlanReplies.{begun_step, book_begun}
 use Rattle.tablet_state.proofs.state.State.begin_plan.Goals as goal
 
 pub begin-plan-requires : goal.begin-plan-requires
