@@ -7,7 +7,7 @@ use Rattle.tablet_state.specs.Seen.{segments_of}
 use Rattle.tablet_state.specs.State.{Has, Keeps, SegmentView, Shown, Steps}
 use Rattle.tablet_state.proofs.Beginning.{keeps_begun, under_way}
 use Rattle.tablet_state.proofs.KeptFacts.{alive_fits}
-use Rattle.tablet_state.proofs.PlanReplies.{begun_step, book_begun}
+use Rattle.tablet_state.proofs.PlanReplies.{begin_memory, begun_step, book_begun}
 use Rattle.tablet_state.proofs.state.State.begin_plan.Goals as goal
 
 pub begin-plan-requires : goal.begin-plan-requires
@@ -37,3 +37,8 @@ returns-clause-turn g c b =
     ap (λ (p : UnderWay). contents_in (Some p) at.schema at.form at.epoch at.edit at.next_file at.floor at.older.items at.current at.index.map) plan_is in
     subst (λ (x : Shown g.row.S.Denot). Has g.S.Store.view x b → Steps g.S.Store.view _ b c.args.seq call.Begin (reply.Begun (current_number x.contents))) c.self.view_is
     (λ h. begun_step g.S.Store.view _ b c.args.seq h open_ g.met.S.Store.honest_reads c.self.invariant.own _ none open_ same (book_begun g.S.Store.view _ b c.args.seq h open_ g.met.S.Store.honest_reads c.self.invariant.own))
+
+pub returns-in_err-plan-clause-memory : goal.returns-in_err-plan-clause-memory
+returns-in_err-plan-clause-memory g c b h =
+    let st = c.args.self.now in
+    begin_memory g.S.Store.view st b c.args.seq h c.requires.open c.requires.none
